@@ -1,0 +1,7 @@
+-- The laws of the notions in specs/.
+pub mod Truth
+pub mod Lists
+pub mod Places
+pub mod Refusals
+pub mod Numbers
+pub mod SingleReply

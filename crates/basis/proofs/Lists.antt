@@ -1,0 +1,48 @@
+-- Consecutive numbers, and sums over those below a bound. Assumes nothing.
+--   length-run        a run has as many numbers as it says
+--   run-at            and counts up from its first
+--   sum-one-more      the sum over the numbers below n + 1 ends with n
+--   sum-grows         more terms, no smaller a sum
+--   sum-at-most       a bound on each term bounds the sum
+use Prim.Native.Nat.{ℕ, zero, suc, _+_, _*_, _≤_, _<_}
+use native.Mathlib.Omega.{arith}
+use native.Mathlib.Nat.{add-zero, mul-suc, le-dest}
+use mathlib.Core.Path.{_≡_, refl, ap}
+use mathlib.Core.List.{List}
+use lib.ListN.{length, getD}
+use Rattle.basis.specs.Lists.{sum, run, below}
+
+pub length-run : (first many : ℕ) → length (run first many) ≡ many
+length-run first zero = refl
+length-run first (suc many) = ap suc (length-run (suc first) many)
+
+pub run-at : (first many i : ℕ) → i < many → getD (run first many) i 0 ≡ first + i
+run-at first zero i h = absurd (omega arith)
+run-at first (suc many) zero h = omega arith
+run-at first (suc many) (suc i) h = omega (arith, run-at (suc first) many i (omega arith))
+
+sum-run : (f : ℕ → ℕ) (first many : ℕ) → sum f (run first (suc many)) ≡ sum f (run first many) + f (first + many)
+sum-run f first zero = rw (add-zero first) (omega arith)
+sum-run f first (suc many) =
+    let place : suc first + many ≡ first + suc many = omega arith in
+    omega (arith, rw place at (sum-run f (suc first) many))
+
+pub sum-one-more : (f : ℕ → ℕ) (n : ℕ) → sum f (below (suc n)) ≡ sum f (below n) + f n
+sum-one-more f n =
+    let place : 0 + n ≡ n = omega arith in
+    rw place at (sum-run f 0 n)
+
+sum-more : (f : ℕ → ℕ) (n more : ℕ) → sum f (below n) ≤ sum f (below (n + more))
+sum-more f n zero = rw add-zero (omega arith)
+sum-more f n (suc more) =
+    let place : n + suc more ≡ suc (n + more) = omega arith in
+    rw place (omega (arith, sum-one-more f (n + more), sum-more f n more))
+
+pub sum-grows : (f : ℕ → ℕ) {few many : ℕ} → few ≤ many → sum f (below few) ≤ sum f (below many)
+sum-grows f {few} h = let more = le-dest h in rw (← more .1) (sum-more f few (more .0))
+
+pub sum-at-most : (f : ℕ → ℕ) (most n : ℕ) → ((i : ℕ) → i < n → f i ≤ most) → sum f (below n) ≤ most * n
+sum-at-most f most zero each = omega arith
+sum-at-most f most (suc n) each =
+    rw (sum-one-more f n, mul-suc most n)
+    (omega (arith, sum-at-most f most n (λ i h. each i (omega arith)), each n (omega arith)))

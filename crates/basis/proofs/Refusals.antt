@@ -1,0 +1,73 @@
+-- The two halves of "exactly when", for any table of refusals. Assumes nothing.
+--   refused-by-first     a line that holds, with none that holds before it, answers
+--   only-the-first       what answers is such a line
+--   accepted-when-none   where no line holds, none answers
+--   none-when-accepted   where none answers, no line holds
+--   each-fails           line by line
+use mathlib.Core.Path.{_≡_, refl, ap, sym, _∙_}
+use mathlib.Core.Logic.{_⊎_, inl, inr}
+use mathlib.Core.List.{List, [], _∷_, _++_}
+use mathlib.Core.Bool.{Bool, true, false, _||_}
+use mathlib.Core.Option.{Option, none, some, Option·some-injective, Option·none-ne-some, Option·some-ne-none}
+use Rattle.basis.specs.Lists.{any}
+use Rattle.basis.specs.Refusals.{Line, firstLine}
+use Rattle.basis.proofs.Truth.{either, neither, nor, hit, missed}
+
+-- no line of a table holds
+abbrev pub NoneHolds : List Line → Type 0
+NoneHolds lines = any (λ line. line .holds) lines ≡ false
+
+answers : (line : Line) (lines : List Line) → line .holds ≡ true → firstLine (line ∷ lines) ≡ some line
+answers line lines h = hit (line .holds) (some line) (firstLine lines) h
+
+passed-over : (line : Line) (lines : List Line) → line .holds ≡ false → firstLine (line ∷ lines) ≡ firstLine lines
+passed-over line lines h = missed (line .holds) (some line) (firstLine lines) h
+
+pub refused-by-first : (earlier : List Line) (line : Line) (later : List Line) →
+    NoneHolds earlier → line .holds ≡ true → firstLine (earlier ++ line ∷ later) ≡ some line
+refused-by-first [] line later none′ h = answers line later h
+refused-by-first (l ∷ earlier) line later none′ h =
+    let apart = neither (l .holds) (any (λ line. line .holds) earlier) none′ in
+    passed-over l (earlier ++ line ∷ later) (apart .0) ∙ refused-by-first earlier line later (apart .1) h
+
+-- a line that answers splits the table: before it no line holds, and it does
+abbrev Split : List Line → Line → Type 0
+Split lines line =
+    (earlier : List Line) × (later : List Line) × (lines ≡ earlier ++ line ∷ later) × NoneHolds earlier × (line .holds ≡ true)
+
+pub only-the-first : (lines : List Line) (line : Line) → firstLine lines ≡ some line → Split lines line
+only-the-first [] line e = absurd (Option·none-ne-some line e)
+only-the-first (l ∷ lines) line e = go (either (l .holds)) (only-the-first lines line)
+  where
+    go : (l .holds ≡ true) ⊎ (l .holds ≡ false) → (firstLine lines ≡ some line → Split lines line) → Split (l ∷ lines) line
+    go (inl h) rest =
+        let same : l ≡ line = Option·some-injective l line (sym (answers l lines h) ∙ e) in
+        ([], lines, ap (λ x. x ∷ lines) same, refl, rw (← same) h)
+    go (inr h) rest =
+        let r = rest (sym (passed-over l lines h) ∙ e) in
+        (l ∷ r .0, r .1, ap (λ x. l ∷ x) (r .2), nor _ _ h (r .3), r .4)
+
+pub accepted-when-none : (lines : List Line) → NoneHolds lines → firstLine lines ≡ none
+accepted-when-none [] none′ = refl
+accepted-when-none (l ∷ lines) none′ =
+    let apart = neither (l .holds) (any (λ line. line .holds) lines) none′ in
+    passed-over l lines (apart .0) ∙ accepted-when-none lines (apart .1)
+
+pub none-when-accepted : (lines : List Line) → firstLine lines ≡ none → NoneHolds lines
+none-when-accepted [] e = refl
+none-when-accepted (l ∷ lines) e = go (either (l .holds)) (none-when-accepted lines)
+  where
+    go : (l .holds ≡ true) ⊎ (l .holds ≡ false) → (firstLine lines ≡ none → NoneHolds lines) → NoneHolds (l ∷ lines)
+    go (inl h) rest = absurd (Option·some-ne-none l (sym (answers l lines h) ∙ e))
+    go (inr h) rest = nor _ _ h (rest (sym (passed-over l lines h) ∙ e))
+
+-- each line's condition in turn
+abbrev pub EachFails : List Line → Type 0
+EachFails [] = Unit {0}
+EachFails (line ∷ lines) = (line .holds ≡ false) × EachFails lines
+
+pub each-fails : (lines : List Line) → NoneHolds lines → EachFails lines
+each-fails [] none′ = tt
+each-fails (line ∷ lines) none′ =
+    let apart = neither (line .holds) (any (λ line. line .holds) lines) none′ in
+    (apart .0, each-fails lines (apart .1))

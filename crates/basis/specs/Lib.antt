@@ -1,0 +1,5 @@
+-- Notions that every other crate speaks in.
+pub mod Lists
+pub mod Places
+pub mod Refusals
+pub mod Numbers

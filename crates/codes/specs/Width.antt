@@ -1,0 +1,20 @@
+-- A column's width in bits, and what follows from it. Assumes nothing.
+use Prim.Native.Nat.{ℕ, _+_, _-_, _*_, _/_}
+use mathlib.Core.Bool.{Bool, _||_}
+use lib.Dec.{ltb, eqb}
+
+-- the widest column has 32 bits
+abbrev pub widest : ℕ
+widest = 32
+
+-- a width of 0, or over the widest, fits no column
+unfoldable pub unfitWidth : ℕ → Bool
+unfitWidth width = eqb width 0 || ltb widest width
+
+-- B: an eighth of the width, rounded up
+unfoldable pub slicesOf : ℕ → ℕ
+slicesOf width = (width + 7) / 8
+
+-- p: what the slices have over the width
+unfoldable pub padOf : ℕ → ℕ
+padOf width = 8 * slicesOf width - width

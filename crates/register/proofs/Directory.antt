@@ -1,0 +1,58 @@
+-- The directory entry by entry: cutting one out of the file, and what a fit one says. Assumes nothing.
+--   entry-cut          the eight bytes from where a column's entry stands are its entry
+--   judged-by-entry    a column is unfit exactly when its entry is, for where the column is to start
+--   fit-column         a fit column has a width from 1 to 32, and starts where it is to start
+--   one-more-column    the slices before the next column
+--   few-bytes          four slices to a column, and the limits, keep the bytes of the body few
+use Prim.Native.Nat.{ℕ, suc, _+_, _-_, _*_, _^_, _≤_, _<_}
+use native.Mathlib.Omega.{arith}
+use native.Mathlib.Nat.{mul-le-mul}
+use mathlib.Core.Path.{_≡_}
+use mathlib.Core.List.{List}
+use mathlib.Core.Bool.{false, not, _||_}
+use lib.Dec.{eqb}
+use lib.ListN.{length, take, drop, length-take, length-drop}
+use borrow.Author.Tests.{eqb-true, not-false}
+use Rattle.basis.proofs.Truth.{neither}
+use Rattle.basis.proofs.Lists.{sum-one-more}
+use Rattle.codes.specs.Width.{widest, unfitWidth, slicesOf}
+use Rattle.codes.proofs.Width.{unfit-false}
+use Rattle.register.specs.Limits.{mostRows, mostColumns}
+use Rattle.register.specs.Layout.{slicesBefore, bytesBefore}
+use Rattle.register.specs.File.{rowsIn, directoryIn, entryIn, widthOf, spareOf, offsetOf, widthIn, offsetIn, unfitEntry, unfitColumn}
+
+pub entry-cut : (file : List ℕ) (from column : ℕ) → from ≡ directoryIn file + 8 * column → from + 8 ≤ length file →
+    (take (from + 8 - from) (drop from file) ≡ entryIn file column) × (length (take (from + 8 - from) (drop from file)) ≡ 8)
+unfolding entryIn
+entry-cut file from column at fits =
+    let eight : from + 8 - from ≡ 8 = omega arith in
+    (rw (eight, at), rw (eight, length-take, length-drop) (omega arith))
+
+pub judged-by-entry : (file entry : List ℕ) (rows slices column : ℕ) → entry ≡ entryIn file column → rows ≡ rowsIn file →
+    slices ≡ slicesBefore (widthIn file) column → unfitEntry entry (rows * slices) ≡ unfitColumn file column
+unfolding unfitColumn
+judged-by-entry file entry rows slices column here same before = rw (here, same, before)
+
+-- what a fit column is known by
+pub record FitColumn (file : List ℕ) (column : ℕ) : Type 0 where
+  pub some : 0 < widthIn file column
+  pub narrow : widthIn file column ≤ widest
+  pub starts : offsetIn file column ≡ bytesBefore (rowsIn file) (widthIn file) column
+
+pub fit-column : (file : List ℕ) (column : ℕ) → unfitColumn file column ≡ false → FitColumn file column
+unfolding unfitColumn unfitEntry widthIn offsetIn
+fit-column file column fit =
+    let entry = entryIn file column in
+    let start = bytesBefore (rowsIn file) (widthIn file) column in
+    let apart = neither (unfitWidth (widthOf entry)) (not (eqb (spareOf entry) 0) || not (eqb (offsetOf entry) start)) fit in
+    let rest = neither (not (eqb (spareOf entry) 0)) (not (eqb (offsetOf entry) start)) (apart .1) in
+    let width = unfit-false (widthOf entry) (apart .0) in
+    record { some = width .0; narrow = width .1; starts = eqb-true (offsetOf entry) start (not-false _ (rest .1)) }
+
+pub one-more-column : (width : ℕ → ℕ) (column : ℕ) →
+    slicesBefore width (suc column) ≡ slicesBefore width column + slicesOf (width column)
+unfolding slicesBefore
+one-more-column width column = sum-one-more (λ earlier. slicesOf (width earlier)) column
+
+pub few-bytes : (rows slices column : ℕ) → rows ≤ mostRows → slices ≤ 4 * column → column ≤ mostColumns → rows * slices ≤ 2 ^ 27
+few-bytes rows slices column few-rows few few-columns = mul-le-mul {n₂ = mostRows} {m₂ = 128} few-rows (omega arith)

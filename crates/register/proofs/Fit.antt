@@ -1,0 +1,76 @@
+-- What is known of a file that opened: every condition of the table has been tried and does not hold. Assumes nothing.
+--   Fit                 the facts, in plain numbers
+--   opened-is-fit       a file that opens has them
+--   fit-is-opened       a file that has them opens
+use Prim.Native.Nat.{ℕ, _+_, _*_, _≤_, _<_}
+use native.Mathlib.Omega.{arith}
+use mathlib.Core.Path.{_≡_, refl, sym, ap, _∙_}
+use mathlib.Core.List.{List}
+use mathlib.Core.Bool.{Bool, true, false, not}
+use mathlib.Core.Option.{Option, none, some}
+use lib.ListN.{length}
+use lib.Dec.{ltb, eqb}
+use borrow.Author.Tests.{ltb-false, eqb-true, eqb-false, not-false}
+use Rattle.basis.specs.Refusals.{Line, answerBy, firstLine}
+use Rattle.basis.proofs.Truth.{neither}
+use Rattle.basis.proofs.Refusals.{none-when-accepted, each-fails}
+use Rattle.basis.proofs.Places.{none-before-first, first-is-none}
+use Rattle.register.specs.declared.Shape.{Shape}
+use Rattle.register.specs.declared.Opened.{Opened}
+use Rattle.register.specs.declared.Opened.the-variants.{Register, Refused}
+use Rattle.register.specs.Limits.{mostRows, mostColumns}
+use Rattle.register.specs.Layout.{bytesBefore}
+use Rattle.register.specs.File.{rowsIn, columnsIn, versionIn, directoryIn, markIn, mark, widthIn, unfitColumn}
+use Rattle.register.specs.Answers.{refusal}
+use Rattle.register.specs.Opening.{firstUnfit, openLines, openedOf}
+use Rattle.register.proofs.Opening.{marked, right-version, few-rows, few-columns, directory-last, all-fit, accepted}
+
+pub record Fit (file : List ℕ) : Type 0 where
+  pub long : 16 ≤ length file
+  pub marked : markIn file ≡ mark
+  pub version : versionIn file ≡ 1
+  pub few-rows : rowsIn file ≤ mostRows
+  pub some-columns : columnsIn file ≡ 0 → ⊥
+  pub few-columns : columnsIn file ≤ mostColumns
+  pub placed : directoryIn file + 8 * columnsIn file + 16 ≡ length file
+  pub each-fit : (column : ℕ) → column < columnsIn file → unfitColumn file column ≡ false
+  pub whole : bytesBefore (rowsIn file) (widthIn file) (columnsIn file) ≡ directoryIn file
+
+abbrev shapeIn : List ℕ → Shape
+shapeIn file = record { rows = rowsIn file; columns = columnsIn file }
+
+-- a refusal is no register
+none-answers : (lines : Option Line) (shape shape′ : Shape) →
+    answerBy (λ line. Refused (refusal line)) (Register shape) lines ≡ Register shape′ → (lines ≡ none) × (shape ≡ shape′)
+none-answers none shape shape′ e = (refl, cc)
+none-answers (some line) shape shape′ e = let z : _≡_ {A = ℕ} 0 1 = cc in absurd (omega arith)
+
+pub opened-is-fit : (file : List ℕ) (shape : Shape) → openedOf file ≡ Register shape → Fit file × (shape ≡ shapeIn file)
+unfolding openedOf openLines
+opened-is-fit file shape e =
+    let answered = none-answers (firstLine (openLines file)) (shapeIn file) shape e in
+    let line = each-fails (openLines file) (none-when-accepted (openLines file) (answered .0)) in
+    let one = neither (ltb (length file) 16) (not (eqb (markIn file) mark)) (line .0) in
+    let four = neither (eqb (columnsIn file) 0) (ltb mostColumns (columnsIn file)) (line .1 .1 .1 .0) in
+    let six = ltb-false (firstUnfit file) (columnsIn file) (line .1 .1 .1 .1 .1 .0) in (
+      record {
+        long = ltb-false (length file) 16 (one .0);
+        marked = eqb-true (markIn file) mark (not-false _ (one .1));
+        version = eqb-true (versionIn file) 1 (not-false _ (line .1 .0));
+        few-rows = ltb-false mostRows (rowsIn file) (line .1 .1 .0);
+        some-columns = eqb-false (columnsIn file) 0 (four .0);
+        few-columns = ltb-false mostColumns (columnsIn file) (four .1);
+        placed = eqb-true _ _ (not-false _ (line .1 .1 .1 .1 .0));
+        each-fit = λ column h. none-before-first (unfitColumn file) (columnsIn file) column (omega arith);
+        whole = eqb-true _ _ (not-false _ (line .1 .1 .1 .1 .1 .1 .0));
+      },
+      sym (answered .1),
+    )
+
+pub fit-is-opened : (file : List ℕ) → Fit file → openedOf file ≡ Register (shapeIn file)
+fit-is-opened file fit =
+    let none-unfit = first-is-none (unfitColumn file) (columnsIn file) (fit .each-fit) in
+    let one = marked file (fit .long) (fit .marked) in
+    let three = few-rows file (right-version file one (fit .version)) (fit .few-rows) in
+    let five = directory-last file (few-columns file three (fit .some-columns) (fit .few-columns)) (fit .placed) in
+    accepted file (all-fit file five (omega arith)) (fit .whole)

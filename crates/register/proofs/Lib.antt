@@ -1,0 +1,4 @@
+-- The laws of a register's file and of opening it.
+pub mod Opening
+pub mod Fit
+pub mod Directory

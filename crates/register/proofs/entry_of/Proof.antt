@@ -1,0 +1,78 @@
+-- `register::entry_of` meets its contract: in a file that opened, the directory ends 16 bytes before the end. Assumes nothing.
+use Prim.Native.Nat.{ℕ, _+_, _-_, _*_, _≤_}
+use native.Mathlib.Omega.{arith}
+use mathlib.Core.Path.{_≡_, ap}
+use mathlib.Core.List.{List}
+use lib.ListN.{length}
+use borrow.Author.Needs.{needs}
+use Rattle.register.specs.declared.Shape.{Shape}
+use Rattle.register.specs.declared.Opened.the-variants.{Register}
+use Rattle.register.specs.File.{columnsIn, directoryIn}
+use Rattle.register.specs.Opening.{openedOf}
+use Rattle.register.proofs.Fit.{opened-is-fit}
+use Rattle.register.proofs.Directory.{entry-cut}
+use Rattle.register.proofs.entry_of.Statement.{statement}
+use Rattle.register.proofs.entry_of.Tie as tie
+use Rattle.register.proofs.entry_of.Reads as reads
+use Rattle.register.proofs.entry_of.Lts as lts
+
+-- an opened file has room for its directory and its trailer
+room : (file : List ℕ) (shape : Shape) → openedOf file ≡ Register shape →
+    (shape .columns ≤ 32) × (directoryIn file + 8 * shape .columns + 16 ≡ length file)
+room file shape opened =
+    let fit = opened-is-fit file shape opened in
+    let same : shape .columns ≡ columnsIn file = ap (λ (s : Shape). s .columns) (fit .1) in
+    rw same (fit .0 .few-columns, fit .0 .placed)
+
+-- src/lib.rt:136:16
+sub-from : tie.Need-sub-from
+sub-from c = let known = room _ _ (c .pre .0) in omega arith
+
+-- src/lib.rt:136:39
+sub-from-2 : tie.Need-sub-from-2
+sub-from-2 c = search needs
+
+-- src/lib.rt:136:34
+mul-from : tie.Need-mul-from
+mul-from c = let known = room _ _ (c .pre .0) in omega arith
+
+-- src/lib.rt:136:16
+sub-from-3 : tie.Need-sub-from-3
+sub-from-3 c = let known = room _ _ (c .pre .0) in omega arith
+
+-- src/lib.rt:137:14
+add-to : tie.Need-add-to
+add-to c = search needs
+
+-- src/lib.rt:138:5
+sub-result : tie.Need-sub-result
+sub-result c = search needs
+
+-- src/lib.rt:138:5
+part-result-start : tie.Need-part-result-start
+part-result-start c = search needs
+
+-- src/lib.rt:138:5
+part-result-end : tie.Need-part-result-end
+part-result-end c = let known = room _ _ (c .pre .0) in omega arith
+
+-- src/lib.rt:131:1
+returns : tie.Need-returns
+returns c =
+    let known = room _ _ (c .before .pre .0) in
+    let a = c .before .args in
+    entry-cut (a .file .now) (length (a .file .now) - 16 - 8 * (a .shape .columns - a .column)) (a .column) (omega arith) (omega arith)
+
+pub entry-of-spec : {M : Type 1} → statement M
+entry-of-spec =
+    tie.close
+    (tie.spec
+    sub-from
+    sub-from-2
+    mul-from
+    sub-from-3
+    add-to
+    sub-result
+    part-result-start
+    part-result-end
+    returns)

@@ -1,0 +1,25 @@
+-- `register::width_at` meets its contract: the first byte of the entry is the width. Assumes nothing.
+use mathlib.Core.Path.{ap}
+use borrow.Author.Needs.{needs}
+use Rattle.register.specs.File.{widthOf, widthIn}
+use Rattle.register.proofs.width_at.Statement.{statement}
+use Rattle.register.proofs.width_at.Tie as tie
+use Rattle.register.proofs.width_at.Reads as reads
+use Rattle.register.proofs.width_at.Lts as lts
+use Rattle.register.proofs.entry_of.Reads as entry-of-reads
+
+-- src/lib.rt:117:9
+entry-of-requires : tie.Need-entry-of-requires
+entry-of-requires c κs = search needs
+
+-- src/lib.rt:118:5
+shared-slice-read-result : tie.Need-shared-slice-read-result
+shared-slice-read-result c = search needs
+
+-- src/lib.rt:113:1
+returns : tie.Need-returns
+unfolding widthIn
+returns c = ap widthOf (c .before .entry-of .ensures .0)
+
+pub width-at-spec : {M : Type 1} → statement M
+width-at-spec = tie.close (tie.spec entry-of-requires shared-slice-read-result returns)

@@ -1,0 +1,34 @@
+-- The answer to opening, case by case, and what a bench is shown of it. Assumes nothing.
+use Prim.Native.Nat.{ℕ}
+use Rattle.basis.specs.Refusals.{Line}
+use Rattle.register.specs.declared.Refusal.{Refusal}
+use Rattle.register.specs.declared.Shape.{Shape}
+use Rattle.register.specs.declared.Opened.{Opened}
+use Rattle.register.specs.declared.Opened.the-variants.{Register, Refused}
+
+-- a line of a table of refusals, as a refusal
+abbrev pub refusal : Line → Refusal
+refusal line = record { number = line .number; place = line .place; need = line .need }
+
+-- a refused opening, by number and place
+abbrev pub refusedWith : ℕ → ℕ → Opened
+refusedWith number place = Refused (record { number = number; place = place; need = 0 })
+
+-- the refusal that an answer carries; of a file that opened, all 0
+abbrev pub refusalOf : Opened → Refusal
+refusalOf (Register shape) = record { number = 0; place = 0; need = 0 }
+refusalOf (Refused refusal) = refusal
+
+-- what is shown: number, place and need, and the values
+pub record Shown : Type 0 where
+  pub number : ℕ
+  pub place : ℕ
+  pub need : ℕ
+  pub rows : ℕ
+  pub columns : ℕ
+
+-- an accepted call shows number, place and need 0, and a refused one 0 in every field of the answer
+abbrev pub shownOf : Opened → Shown
+shownOf (Register shape) = record { number = 0; place = 0; need = 0; rows = shape .rows; columns = shape .columns }
+shownOf (Refused refusal) =
+    record { number = refusal .number; place = refusal .place; need = refusal .need; rows = 0; columns = 0 }

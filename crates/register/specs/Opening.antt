@@ -1,0 +1,48 @@
+-- Opening a file: refusals 1 to 7 in their order, or the number of rows and of columns. Assumes nothing.
+use Prim.Native.Nat.{ℕ, _+_, _*_}
+use mathlib.Core.List.{List, [], _∷_}
+use mathlib.Core.Bool.{Bool, not, _||_}
+use lib.Dec.{ltb, eqb}
+use lib.ListN.{length}
+use Rattle.basis.specs.Places.{firstPlace}
+use Rattle.basis.specs.Refusals.{Line, refuse, refuseAt, firstLine, answerBy}
+use Rattle.register.specs.declared.Opened.{Opened}
+use Rattle.register.specs.declared.Opened.the-variants.{Register, Refused}
+use Rattle.register.specs.Limits.{mostRows, mostColumns}
+use Rattle.register.specs.Layout.{bytesBefore}
+use Rattle.register.specs.File.{rowsIn, columnsIn, versionIn, directoryIn, markIn, mark, widthIn, unfitColumn}
+use Rattle.register.specs.Answers.{Shown, refusal, shownOf}
+
+-- the lowest unfit column
+abbrev pub firstUnfit : List ℕ → ℕ
+firstUnfit file = firstPlace (unfitColumn file) (columnsIn file)
+
+-- 1: under 16 bytes, or wrong mark
+-- 2: version not 1
+-- 3: too many rows
+-- 4: no columns, or too many
+-- 5: the directory is not where length - 16 - 8 x columns is, in whole numbers, so also where that is below 0
+-- 6: a column is unfit; place: the lowest
+-- 7: the slices of all columns do not end where the directory starts
+unfoldable pub openLines : List ℕ → List Line
+openLines file =
+    refuse 1 (ltb (length file) 16 || not (eqb (markIn file) mark))
+    ∷ refuse 2 (not (eqb (versionIn file) 1))
+    ∷ refuse 3 (ltb mostRows (rowsIn file))
+    ∷ refuse 4 (eqb (columnsIn file) 0 || ltb mostColumns (columnsIn file))
+    ∷ refuse 5 (not (eqb (directoryIn file + 8 * columnsIn file + 16) (length file)))
+    ∷ refuseAt 6 (ltb (firstUnfit file) (columnsIn file)) (firstUnfit file)
+    ∷ refuse 7 (not (eqb (bytesBefore (rowsIn file) (widthIn file) (columnsIn file)) (directoryIn file)))
+    ∷ []
+
+-- the answer
+unfoldable pub openedOf : List ℕ → Opened
+openedOf file =
+    answerBy (λ line. Refused (refusal line)) (Register (record { rows = rowsIn file; columns = columnsIn file }))
+    (firstLine (openLines file))
+
+-- what is shown, from the same table: the line's numbers and no values, or no refusal and the values
+unfoldable pub shownFor : List ℕ → Shown
+shownFor file =
+    answerBy (λ line. record { number = line .number; place = line .place; need = line .need; rows = 0; columns = 0 })
+    (record { number = 0; place = 0; need = 0; rows = rowsIn file; columns = columnsIn file }) (firstLine (openLines file))

@@ -1,0 +1,226 @@
+// A register's file: opening it, and what its directory says of a column. The file is lent as a
+// slice of bytes, is read where it lies and is never changed.
+ghost use mathlib.Core.Path.{_≡_};
+ghost use Prim.Native.Nat.{_+_, _*_, _≤_, _<_, _^_};
+ghost use lib.ListN.{length};
+ghost use Rattle.basis.specs.Numbers.{little};
+ghost use Rattle.basis.specs.Places.{firstPlace};
+ghost use Rattle.register.specs.Limits.{mostRows, mostColumns};
+ghost use Rattle.register.specs.Layout.{slicesBefore};
+ghost use Rattle.register.specs.File.{rowsIn, directoryIn, entryIn, widthIn, offsetIn, unfitEntry, unfitColumn};
+ghost use Rattle.register.specs.Trailer.{TrailerRead};
+ghost use Rattle.register.specs.Answers.{refusedWith, refusalOf, shownOf};
+ghost use Rattle.register.specs.Opening.{openedOf, shownFor};
+
+// Rows and columns that a register may have.
+pub const MOST_ROWS: usize = 1048576;
+
+pub const MOST_COLUMNS: usize = 32;
+
+// The mark 42 53 4C 31 at a file's end, as a number of four bytes.
+const MARK: usize = 0x314C5342;
+
+// A refusal: its number in the table, its place and its need, each 0 where it has none.
+pub struct Refusal {
+    pub number: usize,
+    pub place: usize,
+    pub need: usize,
+}
+
+// What opening tells of a register.
+pub struct Shape {
+    pub rows: usize,
+    pub columns: usize,
+}
+
+// The answer to opening a file.
+pub enum Opened {
+    Register(Shape),
+    Refused(Refusal),
+}
+
+// The numbers of a file's last 16 bytes.
+struct Trailer {
+    rows: usize,
+    columns: usize,
+    version: usize,
+    directory: usize,
+    mark: usize,
+}
+
+// How far the directory is fit: the first unfit column, or the number of columns where there is
+// none, and how many slices the columns before it have.
+struct Judged {
+    place: usize,
+    slices: usize,
+}
+
+// Opens a file: its rows and columns, or the first refusal that applies.
+pub fn open(file: &[u8]) -> Opened
+    ensures answer { λ r. ⌜ r ≡ openedOf (now (file .entry)) ⌝ }
+    ensures shown { λ r. ⌜ shownOf r ≡ shownFor (now (file .entry)) ⌝ }
+{
+    let length = file.len();
+    if length < 16 {
+        return refused(1, 0);
+    }
+    let trailer = read_trailer(&file[length - 16..]);
+    if trailer.mark != MARK {
+        return refused(1, 0);
+    }
+    if trailer.version != 1 {
+        return refused(2, 0);
+    }
+    if MOST_ROWS < trailer.rows {
+        return refused(3, 0);
+    }
+    if trailer.columns == 0 {
+        return refused(4, 0);
+    }
+    if MOST_COLUMNS < trailer.columns {
+        return refused(4, 0);
+    }
+    if trailer.directory + 8 * trailer.columns + 16 != length {
+        return refused(5, 0);
+    }
+    let judged = judge(file, trailer.directory, trailer.rows, trailer.columns);
+    if judged.place < trailer.columns {
+        return refused(6, judged.place);
+    }
+    if trailer.rows * judged.slices != trailer.directory {
+        return refused(7, 0);
+    }
+    Opened::Register(Shape {
+        rows: trailer.rows,
+        columns: trailer.columns,
+    })
+}
+
+// The refusal of a file that did not open, for a caller to pass on. Of one that did, all 0.
+pub fn refusal_of(opened: Opened) -> Refusal
+    ensures { λ r. ⌜ r ≡ refusalOf opened ⌝ }
+{
+    match opened {
+        Opened::Register(_) => Refusal {
+            number: 0,
+            place: 0,
+            need: 0,
+        },
+        Opened::Refused(refusal) => refusal,
+    }
+}
+
+// The width of a column of an opened file, from its directory.
+pub fn width_at(file: &[u8], shape: Shape, column: usize) -> u8
+    requires { ⌜ (openedOf (now file) ≡ Opened.Register shape) × (column < shape .columns) ⌝ }
+    ensures { λ r. ⌜ r ≡ widthIn (now (file .entry)) column ⌝ }
+{
+    let entry = entry_of(file, shape, column);
+    entry[0]
+}
+
+// Where slice 1 of a column of an opened file starts, from its directory.
+pub fn offset_at(file: &[u8], shape: Shape, column: usize) -> usize
+    requires { ⌜ (openedOf (now file) ≡ Opened.Register shape) × (column < shape .columns) ⌝ }
+    ensures { λ r. ⌜ r ≡ offsetIn (now (file .entry)) column ⌝ }
+{
+    let entry = entry_of(file, shape, column);
+    number_of(&entry[4..8])
+}
+
+// The directory's 8 bytes for a column of an opened file.
+fn entry_of(file: &[u8], shape: Shape, column: usize) -> &[u8]
+    requires { ⌜ (openedOf (now file) ≡ Opened.Register shape) × (column < shape .columns) ⌝ }
+    ensures { λ r. ⌜ (now r ≡ entryIn (now (file .entry)) column) × (length (now r) ≡ 8) ⌝ }
+{
+    let columns = shape.columns;
+    let from = file.len() - 16 - 8 * (columns - column);
+    let to = from + 8;
+    &file[from..to]
+}
+
+fn refused(number: usize, place: usize) -> Opened
+    ensures { λ r. ⌜ r ≡ refusedWith number place ⌝ }
+{
+    Opened::Refused(Refusal {
+        number,
+        place,
+        need: 0,
+    })
+}
+
+fn wide(x: u8) -> usize
+    ensures { λ r. ⌜ (r ≡ x) × (r < 256) ⌝ }
+{
+    x as usize
+}
+
+// The number that at most four bytes make, the least significant first.
+fn number_of(bytes: &[u8]) -> usize
+    requires { ⌜ length (now bytes) ≤ 4 ⌝ }
+    ensures { λ r. ⌜ (r ≡ little (now (bytes .entry))) × (r < 2 ^ 32) ⌝ }
+{
+    let mut number: usize = 0;
+    let mut left = bytes.len();
+    while 0 < left {
+        left = left - 1;
+        number = number * 256 + wide(bytes[left]);
+    }
+    number
+}
+
+fn read_trailer(last: &[u8]) -> Trailer
+    requires { ⌜ length (now last) ≡ 16 ⌝ }
+    ensures { λ r. ⌜ TrailerRead (now (last .entry)) r ⌝ }
+{
+    Trailer {
+        rows: number_of(&last[0..4]),
+        columns: number_of(&last[4..6]),
+        version: number_of(&last[6..8]),
+        directory: number_of(&last[8..12]),
+        mark: number_of(&last[12..16]),
+    }
+}
+
+// Whether a directory entry is unfit for a column that should start at the offset.
+fn unfit_entry(entry: &[u8], offset: usize) -> bool
+    requires { ⌜ length (now entry) ≡ 8 ⌝ }
+    ensures { λ r. ⌜ r ≡ unfitEntry (now (entry .entry)) offset ⌝ }
+{
+    if codes::unfit_width(entry[0]) {
+        return true;
+    }
+    if number_of(&entry[1..4]) != 0 {
+        return true;
+    }
+    number_of(&entry[4..8]) != offset
+}
+
+// Goes through the directory column by column, and ends at the first that is unfit.
+fn judge(file: &[u8], directory: usize, rows: usize, columns: usize) -> Judged
+    requires { ⌜ (rows ≡ rowsIn (now file)) × (directory ≡ directoryIn (now file)) ⌝ }
+    requires { ⌜ (rows ≤ mostRows) × (columns ≤ mostColumns) × (directory + 8 * columns ≤ length (now file)) ⌝ }
+    ensures { λ r. ⌜ (r .place ≡ firstPlace (unfitColumn (now (file .entry))) columns)
+        × (r .slices ≡ slicesBefore (widthIn (now (file .entry))) (r .place))
+        × (r .slices ≤ 4 * r .place) ⌝ }
+{
+    let mut slices: usize = 0;
+    let mut column = 0;
+    while column < columns {
+        let from = directory + 8 * column;
+        let to = from + 8;
+        let entry = &file[from..to];
+        if unfit_entry(entry, rows * slices) {
+            return Judged {
+                place: column,
+                slices,
+            };
+        }
+        slices = slices + codes::slices_of(entry[0]);
+        column = column + 1;
+    }
+    Judged {
+        place: column,
+        slices,
+    }
+}
