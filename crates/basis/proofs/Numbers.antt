@@ -1,4 +1,5 @@
 -- Numbers as bytes, least significant first: each way undoes the other. Assumes nothing.
+--   byte-first, byte-and-bytes   a list of bytes put together, and taken apart
 --   length-toLittle     as many bytes as were asked for
 --   toLittle-bytes      each of them a byte
 --   little-bound        n bytes make a number below 256^n
@@ -12,22 +13,26 @@ use native.Mathlib.Omega.{arith}
 use native.Mathlib.Nat.{pow-suc, pow-le-pow-right, lt-of-lt-of-le}
 use mathlib.Core.Path.{_≡_, refl, ap}
 use mathlib.Core.List.{List, [], _∷_}
-use mathlib.Core.Bool.{Bool, true, false, _&&_}
-use lib.Dec.{T, ltb, ltb→lt, lt→ltb}
+use mathlib.Core.Bool.{_&&_}
+use lib.Dec.{T, ltb, ltb→lt}
+use borrow.Author.Tests.{lt-ltb}
 use lib.ListN.{length, getD, drop}
 use lib.Seq.{drop-cons}
-use Rattle.basis.specs.Lists.{all}
 use Rattle.basis.specs.Numbers.{areBytes, little, toLittle}
-use Rattle.basis.proofs.Truth.{both, holds}
+use Rattle.basis.proofs.Truth.{both}
 
 pub length-toLittle : (n number : ℕ) → length (toLittle n number) ≡ n
 unfolding toLittle
 length-toLittle zero number = refl
 length-toLittle (suc n) number = ap suc (length-toLittle n (number / 256))
 
--- a byte in front of bytes
-byte-first : (b : ℕ) (bytes : List ℕ) → b < 256 → T (areBytes bytes) → T (areBytes (b ∷ bytes))
-byte-first b bytes h rest = rw (holds (ltb b 256) (lt→ltb b 256 h)) rest
+pub byte-first : (b : ℕ) (bytes : List ℕ) → b < 256 → T (areBytes bytes) → T (areBytes (b ∷ bytes))
+byte-first b bytes h rest = rw (lt-ltb b 256 h) rest
+
+pub byte-and-bytes : (b : ℕ) (bytes : List ℕ) → T (areBytes (b ∷ bytes)) → (b < 256) × T (areBytes bytes)
+byte-and-bytes b bytes t =
+    let parts = both (ltb b 256) (areBytes bytes) t in
+    (ltb→lt b 256 (parts .0), parts .1)
 
 pub toLittle-bytes : (n number : ℕ) → T (areBytes (toLittle n number))
 unfolding toLittle
@@ -39,8 +44,8 @@ pub little-bound : (bytes : List ℕ) → T (areBytes bytes) → little bytes < 
 unfolding little
 little-bound [] h = omega arith
 little-bound (b ∷ bytes) h =
-    let apart = both (ltb b 256) (areBytes bytes) h in
-    rw pow-suc (omega (arith, ltb→lt b 256 (apart .0), little-bound bytes (apart .1)))
+    let parts = byte-and-bytes b bytes h in
+    rw pow-suc (omega (arith, little-bound bytes (parts .1)))
 
 pub little-toLittle : (n number : ℕ) → number < 256 ^ n → little (toLittle n number) ≡ number
 unfolding little toLittle
@@ -53,11 +58,10 @@ pub toLittle-little : (bytes : List ℕ) → T (areBytes bytes) → toLittle (le
 unfolding little toLittle
 toLittle-little [] h = refl
 toLittle-little (b ∷ bytes) h =
-    let apart = both (ltb b 256) (areBytes bytes) h in
-    let byte = ltb→lt b 256 (apart .0) in
+    let parts = byte-and-bytes b bytes h in
     let low : (b + 256 * little bytes) % 256 ≡ b = omega arith in
     let high : (b + 256 * little bytes) / 256 ≡ little bytes = omega arith in
-    rw (low, high) (ap (λ rest. b ∷ rest) (toLittle-little bytes (apart .1)))
+    rw (low, high) (ap (λ rest. b ∷ rest) (toLittle-little bytes (parts .1)))
 
 pub little-from : (bytes : List ℕ) (i : ℕ) → i < length bytes → little (drop i bytes) ≡ getD bytes i 0 + 256 * little (drop (suc i) bytes)
 unfolding little

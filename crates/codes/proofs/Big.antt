@@ -1,5 +1,4 @@
 -- Numbers as bytes, the most significant first, there and back. Assumes nothing.
---     byte-and-bytes, byte-first  a list of bytes taken apart, and put together
 --     some-power                  a power of 256 is not 0
 --     big-append-one              one byte more: 256 times the number, and the byte
 --     big-bound                   n bytes make a number below 256^n
@@ -13,22 +12,11 @@ use native.Mathlib.Omega.{arith}
 use native.Mathlib.Nat.{mod-lt, mod-eq-of-lt, mod-one, mul-assoc, pow-succ', one-le-pow, mul-add-div-right, mul-add-mod-self-right}
 use native.Mathlib.Numerals.{add-one}
 use lib.Arith.{digits-lt, digits-div, mod-mul}
-use lib.Dec.{T, ltb, ltb→lt, lit<}
-use borrow.Author.Tests.{lt-ltb}
+use lib.Dec.{T, lit<}
 use lib.ListN.{length, getD, length-append}
-use Rattle.basis.proofs.Truth.{both}
 use Rattle.basis.specs.Numbers.{areBytes}
+use Rattle.basis.proofs.Numbers.{byte-first, byte-and-bytes}
 use Rattle.codes.specs.Bytes.{big, toBig}
-
--- of a list of bytes the first is a byte, and so are the others
-pub byte-and-bytes : (b : ℕ) (bytes : List ℕ) → T (areBytes (b ∷ bytes)) → (b < 256) × T (areBytes bytes)
-byte-and-bytes b bytes t =
-    let parts = both (ltb b 256) (areBytes bytes) t in
-    (ltb→lt b 256 (parts .0), parts .1)
-
--- a byte in front of bytes makes bytes
-pub byte-first : (b : ℕ) (bytes : List ℕ) → b < 256 → T (areBytes bytes) → T (areBytes (b ∷ bytes))
-byte-first b bytes h t = rw (lt-ltb b 256 h) t
 
 -- a power of 256 is not 0
 pub some-power : (n : ℕ) → 0 < 256 ^ n

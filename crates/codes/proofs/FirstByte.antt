@@ -11,11 +11,12 @@ use lib.Dec.{T}
 use lib.ListN.{length}
 use lib.Pow.{pow-pos}
 use Rattle.basis.specs.Numbers.{areBytes}
+use Rattle.basis.proofs.Numbers.{byte-and-bytes}
 use Rattle.codes.specs.Width.{slicesOf, padOf}
 use Rattle.codes.specs.Bytes.{big, storedOf, bytesOf, joined}
 use Rattle.codes.specs.Pad.{cleared}
 use Rattle.codes.specs.Order.{order, andThen}
-use Rattle.codes.proofs.Big.{byte-and-bytes, big-bound}
+use Rattle.codes.proofs.Big.{big-bound}
 use Rattle.codes.proofs.Compare.{compare-same, compare-digits, compare-scaled}
 use Rattle.codes.proofs.RoundTrip.{length-bytesOf, bytesOf-bytes, big-bytesOf}
 use Rattle.codes.proofs.Pads.{length-cleared, cleared-bytes, big-cleared}
@@ -50,12 +51,12 @@ first-byte-decides width a b a-fits b-fits =
     ∙ compare-scaled (2 ^ padOf width) a b (pow-pos (padOf width))
 
 -- a row's bytes as they stand in a file, their pads cleared, compare with the bytes of a literal as the row's code with it
-pub first-byte-decides-in-a-file : (width literal : ℕ) (bytes : List ℕ) → 0 < width → T (areBytes bytes)
+pub first-byte-decides-in-a-file : (width literal : ℕ) (bytes : List ℕ) → T (areBytes bytes)
     → length bytes ≡ slicesOf width → literal < 2 ^ width
     → order (cleared width bytes) (bytesOf width literal) ≡ compare (joined width bytes) literal
 unfolding storedOf
-first-byte-decides-in-a-file width literal bytes some are long fits =
+first-byte-decides-in-a-file width literal bytes are long fits =
     order-is-compare (cleared width bytes) (bytesOf width literal) (cleared-bytes width bytes are) (bytesOf-bytes width literal)
     (length-cleared width bytes ∙ long ∙ sym (length-bytesOf width literal))
-    ∙ ap₂ compare (big-cleared width bytes some long) (big-bytesOf width literal fits)
+    ∙ ap₂ compare (big-cleared width bytes long) (big-bytesOf width literal fits)
     ∙ compare-scaled (2 ^ padOf width) (joined width bytes) literal (pow-pos (padOf width))

@@ -19,11 +19,12 @@ use lib.ListN.{length, getD}
 use lib.Pow.{pow-pos, pow-add, shl-shr}
 use borrow.Author.Tests.{eq-eqb, ne-eqb}
 use Rattle.basis.specs.Numbers.{areBytes}
+use Rattle.basis.proofs.Numbers.{byte-first, byte-and-bytes}
 use Rattle.codes.specs.Width.{slicesOf, padOf}
 use Rattle.codes.specs.Bytes.{big, toBig, storedOf, bytesOf, byteOf, joined}
 use Rattle.codes.specs.Pad.{lastSlice, clearedByte, clearedFrom, cleared}
 use Rattle.codes.proofs.Width.{pad-below-eight}
-use Rattle.codes.proofs.Big.{byte-and-bytes, byte-first, toBig-big}
+use Rattle.codes.proofs.Big.{toBig-big}
 use Rattle.codes.proofs.RoundTrip.{length-bytesOf, bytesOf-bytes, cut-then-joined}
 
 -- clearing keeps the number of bytes, from any slice on
@@ -115,16 +116,16 @@ big-clearedFrom width slice (b ∷ next ∷ bytes) long =
     ∙ clear-behind width b (length bytes) (big (next ∷ bytes))
 
 -- cleared bytes make the stored number of their code
-pub big-cleared : (width : ℕ) (bytes : List ℕ) → 0 < width → length bytes ≡ slicesOf width
+pub big-cleared : (width : ℕ) (bytes : List ℕ) → length bytes ≡ slicesOf width
     → big (cleared width bytes) ≡ joined width bytes * 2 ^ padOf width
 unfolding joined
-big-cleared width bytes _ long = big-clearedFrom width 0 bytes (omega arith)
+big-cleared width bytes long = big-clearedFrom width 0 bytes (omega arith)
 
 -- clearing the pads does not change the code
 pub joined-ignores-pad : (width : ℕ) (bytes : List ℕ) → length bytes ≡ slicesOf width
     → joined width (cleared width bytes) ≡ joined width bytes
 unfolding joined
-joined-ignores-pad width bytes long = rw (big-clearedFrom width 0 bytes (omega arith)) (shl-shr _ (padOf width))
+joined-ignores-pad width bytes long = rw (big-cleared width bytes long) (shl-shr (joined width bytes) (padOf width))
 
 -- rows that differ in pads alone hold the same code
 pub same-but-for-pads : (width : ℕ) (xs ys : List ℕ) → length xs ≡ slicesOf width → length ys ≡ slicesOf width
@@ -140,7 +141,7 @@ bytesOf-cleared width code fits =
     let long = length-bytesOf width code in
     sym (toBig-big (cleared width bytes) (cleared-bytes width bytes (bytesOf-bytes width code)))
     ∙ ap₂ toBig (length-cleared width bytes ∙ long)
-    (big-clearedFrom width 0 bytes (omega arith) ∙ ap (λ (number : ℕ). number * 2 ^ padOf width) (cut-then-joined width code fits))
+    (big-cleared width bytes long ∙ ap (λ (number : ℕ). number * 2 ^ padOf width) (cut-then-joined width code fits))
 
 -- and so has each of them
 pub byteOf-cleared : (width code slice : ℕ) → code < 2 ^ width → slice < slicesOf width

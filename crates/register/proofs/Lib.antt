@@ -2,3 +2,5 @@
 pub mod Opening
 pub mod Fit
 pub mod Directory
+pub mod Body
+pub mod Settled

@@ -115,8 +115,8 @@ pub fn width_at(file: &[u8], shape: Shape, column: usize) -> u8
     requires { ⌜ (openedOf (now file) ≡ Opened.Register shape) × (column < shape .columns) ⌝ }
     ensures { λ r. ⌜ r ≡ widthIn (now (file .entry)) column ⌝ }
 {
-    let entry = entry_of(file, shape, column);
-    entry[0]
+    let found = entry_of(file, shape, column);
+    found[0]
 }
 
 // Where slice 1 of a column of an opened file starts, from its directory.
@@ -124,8 +124,8 @@ pub fn offset_at(file: &[u8], shape: Shape, column: usize) -> usize
     requires { ⌜ (openedOf (now file) ≡ Opened.Register shape) × (column < shape .columns) ⌝ }
     ensures { λ r. ⌜ r ≡ offsetIn (now (file .entry)) column ⌝ }
 {
-    let entry = entry_of(file, shape, column);
-    number_of(&entry[4..8])
+    let found = entry_of(file, shape, column);
+    number_of(&found[4..8])
 }
 
 // The directory's 8 bytes for a column of an opened file.

@@ -13,8 +13,6 @@ use Rattle.register.proofs.Fit.{opened-is-fit}
 use Rattle.register.proofs.Directory.{entry-cut}
 use Rattle.register.proofs.entry_of.Statement.{statement}
 use Rattle.register.proofs.entry_of.Tie as tie
-use Rattle.register.proofs.entry_of.Reads as reads
-use Rattle.register.proofs.entry_of.Lts as lts
 
 -- an opened file has room for its directory and its trailer
 room : (file : List ℕ) (shape : Shape) → openedOf file ≡ Register shape →
@@ -24,39 +22,30 @@ room file shape opened =
     let same : shape .columns ≡ columnsIn file = ap (λ (s : Shape). s .columns) (fit .1) in
     rw same (fit .0 .few-columns, fit .0 .placed)
 
--- src/lib.rt:136:16
 sub-from : tie.Need-sub-from
 sub-from c = let known = room _ _ (c .pre .0) in omega arith
 
--- src/lib.rt:136:39
 sub-from-2 : tie.Need-sub-from-2
 sub-from-2 c = search needs
 
--- src/lib.rt:136:34
 mul-from : tie.Need-mul-from
 mul-from c = let known = room _ _ (c .pre .0) in omega arith
 
--- src/lib.rt:136:16
 sub-from-3 : tie.Need-sub-from-3
 sub-from-3 c = let known = room _ _ (c .pre .0) in omega arith
 
--- src/lib.rt:137:14
 add-to : tie.Need-add-to
 add-to c = search needs
 
--- src/lib.rt:138:5
 sub-result : tie.Need-sub-result
 sub-result c = search needs
 
--- src/lib.rt:138:5
 part-result-start : tie.Need-part-result-start
 part-result-start c = search needs
 
--- src/lib.rt:138:5
 part-result-end : tie.Need-part-result-end
 part-result-end c = let known = room _ _ (c .pre .0) in omega arith
 
--- src/lib.rt:131:1
 returns : tie.Need-returns
 returns c =
     let known = room _ _ (c .before .pre .0) in

@@ -17,10 +17,6 @@ use Rattle.register.specs.File.{entryIn, widthOf, widthIn, unfitColumn}
 use Rattle.register.proofs.Directory.{entry-cut, judged-by-entry, fit-column, one-more-column, few-bytes}
 use Rattle.register.proofs.judge.Statement.{statement}
 use Rattle.register.proofs.judge.Tie as tie
-use Rattle.register.proofs.judge.Reads as reads
-use Rattle.register.proofs.judge.Lts as lts
-use Rattle.codes.proofs.slices_of.Reads as slices-of-reads
-use Rattle.register.proofs.unfit_entry.Reads as unfit-entry-reads
 
 -- the columns passed are fit, and their slices are counted
 pub record Passed (file : List ℕ) (columns slices column : ℕ) : Type 0 where
@@ -51,7 +47,6 @@ Inv-loop file directory rows columns slices₀ column₀ slices column = Passed 
 abbrev μ-loop : tie.MeasureT-loop
 μ-loop file directory rows columns slices₀ column₀ slices column = columns - column
 
--- src/lib.rt:208:5
 -- the entry of the turn's column
 abbrev fileOf : tie.In-loop Inv-loop μ-loop → List ℕ
 fileOf c = c .before .before .before .args .file .now
@@ -89,72 +84,56 @@ passed c =
 loop-holds : tie.Need-loop-holds Inv-loop μ-loop
 loop-holds c = none-passed (c .before .args .file .now) (c .before .args .columns)
 
--- src/lib.rt:209:32
 mul-from : tie.Need-mul-from Inv-loop μ-loop
 mul-from c = omega arith
 
--- src/lib.rt:209:20
 add-from : tie.Need-add-from Inv-loop μ-loop
 add-from c = omega arith
 
--- src/lib.rt:210:18
 add-to : tie.Need-add-to Inv-loop μ-loop
 add-to c = omega arith
 
--- src/lib.rt:211:21
 sub-entry : tie.Need-sub-entry Inv-loop μ-loop
 sub-entry c = omega arith
 
--- src/lib.rt:211:21
 part-entry-start : tie.Need-part-entry-start Inv-loop μ-loop
 part-entry-start c = omega arith
 
--- src/lib.rt:211:21
 part-entry-end : tie.Need-part-entry-end Inv-loop μ-loop
 part-entry-end c = omega arith
 
--- src/lib.rt:212:31
 mul-unfit-entry : tie.Need-mul-unfit-entry Inv-loop μ-loop
 mul-unfit-entry c =
     let turn = c .before .before .loop in
     omega (arith, few-bytes _ (turn .slices) (turn .column) (c .before .before .before .before .pre .1 .0) (turn .inv .few) (omega arith))
 
--- src/lib.rt:212:12
 unfit-entry-requires : tie.Need-unfit-entry-requires Inv-loop μ-loop
 unfit-entry-requires c κs = here (c .before) .1
 
--- src/lib.rt:213:13
 returns : tie.Need-returns Inv-loop μ-loop
 returns c =
     let turn = c .before .before .before .before .loop in
     let unfit = judged (c .before) ∙ c .if1 .taken in
     (sym (first-is _ _ (turn .column) (omega arith) unfit (turn .inv .fit)), turn .inv .counted, turn .inv .few)
 
--- src/lib.rt:218:44
 shared-slice-read-slices-of : tie.Need-shared-slice-read-slices-of Inv-loop μ-loop
 shared-slice-read-slices-of c = omega (arith, here (c .before .before .before .before) .1)
 
--- src/lib.rt:218:27
 slices-of-requires : tie.Need-slices-of-requires Inv-loop μ-loop
 slices-of-requires c κs = search needs
 
--- src/lib.rt:218:18
 add-slices : tie.Need-add-slices Inv-loop μ-loop
 add-slices c = omega (arith, passed c .few)
 
--- src/lib.rt:219:18
 add-column : tie.Need-add-column Inv-loop μ-loop
 add-column c = omega arith
 
--- src/lib.rt:208:5
 loop-less : tie.Need-loop-less Inv-loop μ-loop
 loop-less c = omega arith
 
--- src/lib.rt:208:5
 loop-again : tie.Need-loop-again Inv-loop μ-loop
 loop-again c = passed c
 
--- src/lib.rt:199:1
 returns-2 : tie.Need-returns-2 Inv-loop μ-loop
 returns-2 c =
     let turn = c .before .loop in

@@ -22,11 +22,6 @@ use Rattle.register.proofs.Opening as opening
 use Rattle.register.proofs.Opening.{after}
 use Rattle.register.proofs.open.Statement.{statement}
 use Rattle.register.proofs.open.Tie as tie
-use Rattle.register.proofs.open.Reads as reads
-use Rattle.register.proofs.open.Lts as lts
-use Rattle.register.proofs.judge.Reads as judge-reads
-use Rattle.register.proofs.read_trailer.Reads as read-trailer-reads
-use Rattle.register.proofs.refused.Reads as refused-reads
 
 -- an answer that is the definition's is shown as the definition says
 promised : (file : List ℕ) {r answer : Opened} → r ≡ answer → openedOf file ≡ answer →
@@ -115,78 +110,62 @@ body c =
     omega (arith, known read .columns, c .if8 .left, first-unfit judged, first-at-most (unfitColumn (fileAt read)) (columnsIn (fileAt read))) in
     ap₂ _*_ (known read .rows) (judged .judge .ensures .1 ∙ ap (slicesBefore (widthIn (fileAt read))) all)
 
--- src/lib.rt:64:9
 refused-requires : tie.Need-refused-requires
 refused-requires c κs = search needs
 
--- src/lib.rt:64:9
 returns : tie.Need-returns
 returns c = promised _ (c .refused .ensures) (opening.too-short _ (c .before .if1 .taken))
 
--- src/lib.rt:66:32
 sub-read-trailer : tie.Need-sub-read-trailer
 sub-read-trailer c = search needs
 
--- src/lib.rt:66:32
 part-read-trailer-start : tie.Need-part-read-trailer-start
 part-read-trailer-start c = search needs
 
--- src/lib.rt:66:32
 part-read-trailer-end : tie.Need-part-read-trailer-end
 part-read-trailer-end c = search needs
 
--- src/lib.rt:66:9
 read-trailer-requires : tie.Need-read-trailer-requires
 read-trailer-requires c κs = search needs
 
--- src/lib.rt:68:9
 refused-requires-2 : tie.Need-refused-requires-2
 refused-requires-2 c κs = search needs
 
--- src/lib.rt:68:9
 returns-2 : tie.Need-returns-2
 unfolding mark little
 returns-2 c =
     let read = c .before .before .before in
     promised _ (c .refused2 .ensures) (opening.wrong-mark (fileAt read) (long read) (λ e. c .before .if2 .taken (known read .mark ∙ e)))
 
--- src/lib.rt:71:9
 refused-requires-3 : tie.Need-refused-requires-3
 refused-requires-3 c κs = search needs
 
--- src/lib.rt:71:9
 returns-3 : tie.Need-returns-3
 returns-3 c =
     let past = c .before .before .before in
     promised _ (c .refused3 .ensures)
     (opening.wrong-version _ (past-1 past) (λ e. c .before .if3 .taken (known (past .before .before) .version ∙ e)))
 
--- src/lib.rt:74:9
 refused-requires-4 : tie.Need-refused-requires-4
 refused-requires-4 c κs = search needs
 
--- src/lib.rt:74:9
 returns-4 : tie.Need-returns-4
 returns-4 c =
     let past = c .before .before .before in
     promised _ (c .refused4 .ensures)
     (opening.too-many-rows _ (past-2 past) (omega (arith, known (read-3 past) .rows, c .before .if4 .taken)))
 
--- src/lib.rt:77:9
 refused-requires-5 : tie.Need-refused-requires-5
 refused-requires-5 c κs = search needs
 
--- src/lib.rt:77:9
 returns-5 : tie.Need-returns-5
 returns-5 c =
     let past = c .before .before .before in
     promised _ (c .refused5 .ensures) (opening.no-columns _ (past-3 past) (sym (known (read-4 past) .columns) ∙ c .before .if5 .taken))
 
--- src/lib.rt:80:9
 refused-requires-6 : tie.Need-refused-requires-6
 refused-requires-6 c κs = search needs
 
--- src/lib.rt:80:9
 returns-6 : tie.Need-returns-6
 returns-6 c =
     let some-columns = c .before .before .before in
@@ -195,23 +174,18 @@ returns-6 c =
     promised _ (c .refused6 .ensures)
     (opening.too-many-columns _ (past-3 past) (omega (arith, some-columns .if5 .left)) (omega (arith, c .before .if6 .taken)))
 
--- src/lib.rt:82:28
 mul-if7 : tie.Need-mul-if7
 mul-if7 c = search needs
 
--- src/lib.rt:82:8
 add-if7 : tie.Need-add-if7
 add-if7 c = search needs
 
--- src/lib.rt:82:8
 add-if7-2 : tie.Need-add-if7-2
 add-if7-2 c = search needs
 
--- src/lib.rt:83:9
 refused-requires-7 : tie.Need-refused-requires-7
 refused-requires-7 c κs = search needs
 
--- src/lib.rt:83:9
 returns-7 : tie.Need-returns-7
 returns-7 c =
     let past = c .before .before .before .before in
@@ -219,7 +193,6 @@ returns-7 c =
     promised _ (c .refused7 .ensures)
     (opening.directory-elsewhere _ (past-4 past) (omega (arith, known (read-6 past) .directory, c .before .if7 .taken)))
 
--- src/lib.rt:85:9
 judge-requires : tie.Need-judge-requires
 judge-requires c κs =
     let read = read-7 c in
@@ -229,11 +202,9 @@ judge-requires c κs =
       (omega (arith, rows .if4 .left), omega (arith, fit .if6 .left), omega (arith, c .if7 .left)),
     )
 
--- src/lib.rt:87:9
 refused-requires-8 : tie.Need-refused-requires-8
 refused-requires-8 c κs = search needs
 
--- src/lib.rt:87:9
 returns-8 : tie.Need-returns-8
 returns-8 c =
     let judged = c .before .before .before .before in
@@ -242,7 +213,6 @@ returns-8 c =
     promised _ (c .refused8 .ensures ∙ ap (refusedWith 6) first)
     (opening.unfit-column _ (past-5 (judged .before)) (omega (arith, c .before .if8 .taken)))
 
--- src/lib.rt:89:8
 mul-if9 : tie.Need-mul-if9
 mul-if9 c =
     let past = c .before .before in
@@ -257,18 +227,15 @@ mul-if9 c =
           (rows .if4 .left) (judged .judge .ensures .2) (omega (arith, first-unfit judged, known read .columns, fit .if6 .left)),
     )
 
--- src/lib.rt:90:9
 refused-requires-9 : tie.Need-refused-requires-9
 refused-requires-9 c κs = search needs
 
--- src/lib.rt:90:9
 returns-9 : tie.Need-returns-9
 returns-9 c =
     let past = c .before .before .before .before .before in
     promised _ (c .refused9 .ensures)
     (opening.body-elsewhere _ (past-6 past) (λ e. c .before .if9 .taken (body past ∙ e ∙ sym (known (read-8 past) .directory))))
 
--- src/lib.rt:58:1
 returns-10 : tie.Need-returns-10
 returns-10 c =
     let past = c .before .before .before .before in

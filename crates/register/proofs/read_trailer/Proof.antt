@@ -3,91 +3,67 @@ use borrow.Author.Needs.{needs}
 use Rattle.basis.specs.Numbers.{numberAt}
 use Rattle.register.proofs.read_trailer.Statement.{statement}
 use Rattle.register.proofs.read_trailer.Tie as tie
-use Rattle.register.proofs.read_trailer.Reads as reads
-use Rattle.register.proofs.read_trailer.Lts as lts
-use Rattle.register.proofs.number_of.Reads as number-of-reads
 
--- src/lib.rt:168:25
 sub-number-of : tie.Need-sub-number-of
 sub-number-of c = search needs
 
--- src/lib.rt:168:25
 part-number-of-start : tie.Need-part-number-of-start
 part-number-of-start c = search needs
 
--- src/lib.rt:168:25
 part-number-of-end : tie.Need-part-number-of-end
 part-number-of-end c = search needs
 
--- src/lib.rt:168:15
 number-of-requires : tie.Need-number-of-requires
 number-of-requires c κs = search needs
 
--- src/lib.rt:169:28
 sub-number-of-2 : tie.Need-sub-number-of-2
 sub-number-of-2 c = search needs
 
--- src/lib.rt:169:28
 part-number-of-start-2 : tie.Need-part-number-of-start-2
 part-number-of-start-2 c = search needs
 
--- src/lib.rt:169:28
 part-number-of-end-2 : tie.Need-part-number-of-end-2
 part-number-of-end-2 c = search needs
 
--- src/lib.rt:169:18
 number-of-requires-2 : tie.Need-number-of-requires-2
 number-of-requires-2 c κs = search needs
 
--- src/lib.rt:170:28
 sub-number-of-3 : tie.Need-sub-number-of-3
 sub-number-of-3 c = search needs
 
--- src/lib.rt:170:28
 part-number-of-start-3 : tie.Need-part-number-of-start-3
 part-number-of-start-3 c = search needs
 
--- src/lib.rt:170:28
 part-number-of-end-3 : tie.Need-part-number-of-end-3
 part-number-of-end-3 c = search needs
 
--- src/lib.rt:170:18
 number-of-requires-3 : tie.Need-number-of-requires-3
 number-of-requires-3 c κs = search needs
 
--- src/lib.rt:171:30
 sub-number-of-4 : tie.Need-sub-number-of-4
 sub-number-of-4 c = search needs
 
--- src/lib.rt:171:30
 part-number-of-start-4 : tie.Need-part-number-of-start-4
 part-number-of-start-4 c = search needs
 
--- src/lib.rt:171:30
 part-number-of-end-4 : tie.Need-part-number-of-end-4
 part-number-of-end-4 c = search needs
 
--- src/lib.rt:171:20
 number-of-requires-4 : tie.Need-number-of-requires-4
 number-of-requires-4 c κs = search needs
 
--- src/lib.rt:172:25
 sub-number-of-5 : tie.Need-sub-number-of-5
 sub-number-of-5 c = search needs
 
--- src/lib.rt:172:25
 part-number-of-start-5 : tie.Need-part-number-of-start-5
 part-number-of-start-5 c = search needs
 
--- src/lib.rt:172:25
 part-number-of-end-5 : tie.Need-part-number-of-end-5
 part-number-of-end-5 c = search needs
 
--- src/lib.rt:172:15
 number-of-requires-5 : tie.Need-number-of-requires-5
 number-of-requires-5 c κs = search needs
 
--- src/lib.rt:163:1
 returns : tie.Need-returns
 unfolding numberAt
 returns c =

@@ -4,22 +4,16 @@ use borrow.Author.Needs.{needs}
 use Rattle.register.specs.Answers.{refusalOf}
 use Rattle.register.proofs.refusal_of.Statement.{statement}
 use Rattle.register.proofs.refusal_of.Tie as tie
-use Rattle.register.proofs.refusal_of.Reads as reads
-use Rattle.register.proofs.refusal_of.Lts as lts
 
--- src/lib.rt:103:32
 enum-told : tie.Need-enum-told
 enum-told c = search needs
 
--- src/lib.rt:108:25
 enum-known-opened : tie.Need-enum-known-opened
 enum-known-opened c = search needs
 
--- src/lib.rt:99:1
 returns : tie.Need-returns
 returns c = sym (ap refusalOf (c .enum-told .given .1))
 
--- src/lib.rt:99:1
 returns-2 : tie.Need-returns-2
 returns-2 c = search needs
 

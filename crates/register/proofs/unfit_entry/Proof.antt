@@ -7,41 +7,29 @@ use Rattle.basis.specs.Numbers.{numberAt}
 use Rattle.register.specs.File.{unfitEntry}
 use Rattle.register.proofs.unfit_entry.Statement.{statement}
 use Rattle.register.proofs.unfit_entry.Tie as tie
-use Rattle.register.proofs.unfit_entry.Reads as reads
-use Rattle.register.proofs.unfit_entry.Lts as lts
-use Rattle.codes.proofs.unfit_width.Reads as unfit-width-reads
-use Rattle.register.proofs.number_of.Reads as number-of-reads
 
--- src/lib.rt:181:27
 shared-slice-read-unfit-width : tie.Need-shared-slice-read-unfit-width
 shared-slice-read-unfit-width c = search needs
 
--- src/lib.rt:181:8
 unfit-width-requires : tie.Need-unfit-width-requires
 unfit-width-requires c κs = search needs
 
--- src/lib.rt:182:9
 returns : tie.Need-returns
 unfolding unfitEntry
 returns c = simp (sym (c .before .unfit-width .ensures) ∙ c .if1 .taken)
 
--- src/lib.rt:184:18
 sub-number-of : tie.Need-sub-number-of
 sub-number-of c = search needs
 
--- src/lib.rt:184:18
 part-number-of-start : tie.Need-part-number-of-start
 part-number-of-start c = search needs
 
--- src/lib.rt:184:18
 part-number-of-end : tie.Need-part-number-of-end
 part-number-of-end c = search needs
 
--- src/lib.rt:184:8
 number-of-requires : tie.Need-number-of-requires
 number-of-requires c κs = search needs
 
--- src/lib.rt:185:9
 returns-2 : tie.Need-returns-2
 unfolding unfitEntry numberAt
 returns-2 c =
@@ -51,23 +39,18 @@ returns-2 c =
       ne-eqb _ _ (λ e. c .if2 .taken (c .before .number-of .ensures .0 ∙ e)),
     )
 
--- src/lib.rt:187:15
 sub-number-of-2 : tie.Need-sub-number-of-2
 sub-number-of-2 c = search needs
 
--- src/lib.rt:187:15
 part-number-of-start-2 : tie.Need-part-number-of-start-2
 part-number-of-start-2 c = search needs
 
--- src/lib.rt:187:15
 part-number-of-end-2 : tie.Need-part-number-of-end-2
 part-number-of-end-2 c = search needs
 
--- src/lib.rt:187:5
 number-of-requires-2 : tie.Need-number-of-requires-2
 number-of-requires-2 c κs = search needs
 
--- src/lib.rt:177:1
 returns-3 : tie.Need-returns-3
 unfolding unfitEntry numberAt
 returns-3 c =

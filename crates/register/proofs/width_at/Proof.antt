@@ -4,19 +4,13 @@ use borrow.Author.Needs.{needs}
 use Rattle.register.specs.File.{widthOf, widthIn}
 use Rattle.register.proofs.width_at.Statement.{statement}
 use Rattle.register.proofs.width_at.Tie as tie
-use Rattle.register.proofs.width_at.Reads as reads
-use Rattle.register.proofs.width_at.Lts as lts
-use Rattle.register.proofs.entry_of.Reads as entry-of-reads
 
--- src/lib.rt:117:9
 entry-of-requires : tie.Need-entry-of-requires
 entry-of-requires c κs = search needs
 
--- src/lib.rt:118:5
 shared-slice-read-result : tie.Need-shared-slice-read-result
 shared-slice-read-result c = search needs
 
--- src/lib.rt:113:1
 returns : tie.Need-returns
 unfolding widthIn
 returns c = ap widthOf (c .before .entry-of .ensures .0)
