@@ -1,0 +1,2 @@
+-- Tests, and what it means to meet one.
+pub mod Tests
