@@ -4,4 +4,5 @@ pub mod Lists
 pub mod Places
 pub mod Refusals
 pub mod Numbers
+pub mod Buffers
 pub mod SingleReply

@@ -1,16 +1,19 @@
 -- Consecutive numbers, and sums over those below a bound. Assumes nothing.
 --   length-run        a run has as many numbers as it says
 --   run-at            and counts up from its first
+--   below-one-more    the numbers below n + 1 end with n
+--   map-one-more      and so does what is made of each
+--   flat-one-more     lists joined, and one more
 --   sum-one-more      the sum over the numbers below n + 1 ends with n
 --   sum-grows         more terms, no smaller a sum
 --   sum-at-most       a bound on each term bounds the sum
 use Prim.Native.Nat.{ℕ, zero, suc, _+_, _*_, _≤_, _<_}
 use native.Mathlib.Omega.{arith}
 use native.Mathlib.Nat.{add-zero, mul-suc, le-dest}
-use mathlib.Core.Path.{_≡_, refl, ap}
-use mathlib.Core.List.{List}
+use mathlib.Core.Path.{_≡_, refl, sym, ap, _∙_}
+use mathlib.Core.List.{List, [], _∷_, _++_, map, map-append, append-nil, append-assoc}
 use lib.ListN.{length, getD}
-use Rattle.basis.specs.Lists.{sum, run, below}
+use Rattle.basis.specs.Lists.{sum, run, below, flat}
 
 pub length-run : (first many : ℕ) → length (run first many) ≡ many
 length-run first zero = refl
@@ -20,6 +23,24 @@ pub run-at : (first many i : ℕ) → i < many → getD (run first many) i 0 ≡
 run-at first zero i h = absurd (omega arith)
 run-at first (suc many) zero h = omega arith
 run-at first (suc many) (suc i) h = omega (arith, run-at (suc first) many i (omega arith))
+
+run-one-more : (first many : ℕ) → run first (suc many) ≡ run first many ++ ((first + many) ∷ [])
+run-one-more first zero = rw (add-zero first)
+run-one-more first (suc many) =
+    let place : suc first + many ≡ first + suc many = omega arith in
+    ap (λ rest. first ∷ rest) (rw place at (run-one-more (suc first) many))
+
+pub below-one-more : (n : ℕ) → below (suc n) ≡ below n ++ (n ∷ [])
+below-one-more n =
+    let place : 0 + n ≡ n = omega arith in
+    rw place at (run-one-more 0 n)
+
+pub map-one-more : {B : Type 0} (f : ℕ → B) (n : ℕ) → map f (below (suc n)) ≡ map f (below n) ++ (f n ∷ [])
+map-one-more f n = ap (map f) (below-one-more n) ∙ map-append f (below n) (n ∷ [])
+
+pub flat-one-more : {A : Type 0} (lists : List (List A)) (list : List A) → flat (lists ++ (list ∷ [])) ≡ flat lists ++ list
+flat-one-more [] list = append-nil list
+flat-one-more (xs ∷ lists) list = ap (λ rest. xs ++ rest) (flat-one-more lists list) ∙ sym (append-assoc xs (flat lists) list)
 
 sum-run : (f : ℕ → ℕ) (first many : ℕ) → sum f (run first (suc many)) ≡ sum f (run first many) + f (first + many)
 sum-run f first zero = rw (add-zero first) (omega arith)

@@ -3,3 +3,4 @@ pub mod Lists
 pub mod Places
 pub mod Refusals
 pub mod Numbers
+pub mod Buffers

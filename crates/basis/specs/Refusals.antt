@@ -20,6 +20,10 @@ refuse number holds = record { holds = holds; number = number; place = 0; need =
 abbrev pub refuseAt : ℕ → Bool → ℕ → Line
 refuseAt number holds place = record { holds = holds; number = number; place = place; need = 0 }
 
+-- a refusal with its need
+abbrev pub refuseFor : ℕ → Bool → ℕ → Line
+refuseFor number holds need = record { holds = holds; number = number; place = 0; need = need }
+
 -- the first line whose condition holds
 abbrev pub firstLine : List Line → Option Line
 firstLine [] = none

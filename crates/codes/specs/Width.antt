@@ -1,6 +1,6 @@
 -- A column's width in bits, and what follows from it. Assumes nothing.
-use Prim.Native.Nat.{ℕ, _+_, _-_, _*_, _/_}
-use mathlib.Core.Bool.{Bool, _||_}
+use Prim.Native.Nat.{ℕ, _+_, _-_, _*_, _/_, _^_}
+use mathlib.Core.Bool.{Bool, not, _||_}
 use lib.Dec.{ltb, eqb}
 
 -- the widest column has 32 bits
@@ -18,3 +18,7 @@ slicesOf width = (width + 7) / 8
 -- p: what the slices have over the width
 unfoldable pub padOf : ℕ → ℕ
 padOf width = 8 * slicesOf width - width
+
+-- a code is too large for its column when it is not below 2^k
+unfoldable pub tooLarge : ℕ → ℕ → Bool
+tooLarge width code = not (ltb code (2 ^ width))

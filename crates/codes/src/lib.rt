@@ -3,7 +3,7 @@
 ghost use mathlib.Core.Path.{_≡_};
 ghost use Prim.Native.Nat.{_<_, _≤_, _^_};
 ghost use lib.ListN.{length};
-ghost use Rattle.codes.specs.Width.{widest, unfitWidth, slicesOf, padOf};
+ghost use Rattle.codes.specs.Width.{widest, unfitWidth, slicesOf, padOf, tooLarge};
 ghost use Rattle.codes.specs.Bytes.{byteOf, joined};
 
 // The widest column, in bits.
@@ -32,6 +32,15 @@ pub fn unit_of(width: u8) -> u64
 {
     let pad = 8 * slices_of(width) - width as usize;
     1 << pad
+}
+
+// Whether a code, or a literal, is too large for a column of this width.
+pub fn too_large(width: u8, code: u64) -> bool
+    requires { ⌜ width ≤ widest ⌝ }
+    ensures { λ r. ⌜ r ≡ tooLarge width code ⌝ }
+{
+    let limit = 1 << (width as u64);
+    !(code < limit)
 }
 
 // The byte of a code in a slice, counted from 0: for the writer, and for literals.

@@ -28,9 +28,12 @@ directoryIn file = numberAt (trailerIn file) 8 4
 abbrev pub markIn : List ℕ → ℕ
 markIn file = numberAt (trailerIn file) 12 4
 
--- the mark 42 53 4C 31, read as the number that its bytes make
+-- the mark 42 53 4C 31, and the number that its bytes make
+abbrev pub markBytes : List ℕ
+markBytes = 0x42 ∷ 0x53 ∷ 0x4C ∷ 0x31 ∷ []
+
 unfoldable pub mark : ℕ
-mark = little (0x42 ∷ 0x53 ∷ 0x4C ∷ 0x31 ∷ [])
+mark = little markBytes
 
 -- the directory: 8 bytes a column
 unfoldable pub entryIn : List ℕ → ℕ → List ℕ

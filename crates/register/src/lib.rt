@@ -18,7 +18,7 @@ pub const MOST_ROWS: usize = 1048576;
 pub const MOST_COLUMNS: usize = 32;
 
 // The mark 42 53 4C 31 at a file's end, as a number of four bytes.
-const MARK: usize = 0x314C5342;
+pub const MARK: usize = 0x314C5342;
 
 // A refusal: its number in the table, its place and its need, each 0 where it has none.
 pub struct Refusal {

@@ -1,0 +1,2 @@
+-- What reading an input whole answers.
+pub mod Taking
