@@ -5,4 +5,7 @@ pub mod Places
 pub mod Refusals
 pub mod Numbers
 pub mod Buffers
+pub mod Passing
+pub mod Members
+pub mod Runs
 pub mod SingleReply

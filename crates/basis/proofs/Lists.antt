@@ -7,12 +7,16 @@
 --   sum-one-more      the sum over the numbers below n + 1 ends with n
 --   sum-grows         more terms, no smaller a sum
 --   sum-at-most       a bound on each term bounds the sum
+--   sum-of-same       a sum of one number over and over is a product
+--   sum-scaled        a common factor comes out of a sum
+--   joined-one-more   what is joined of each number below n + 1 ends with n's
+--   length-flat       lists joined are as long as all of them together
 use Prim.Native.Nat.{ℕ, zero, suc, _+_, _*_, _≤_, _<_}
 use native.Mathlib.Omega.{arith}
-use native.Mathlib.Nat.{add-zero, mul-suc, le-dest}
+use native.Mathlib.Nat.{add-zero, mul-zero, mul-suc, mul-add, le-dest}
 use mathlib.Core.Path.{_≡_, refl, sym, ap, _∙_}
 use mathlib.Core.List.{List, [], _∷_, _++_, map, map-append, append-nil, append-assoc}
-use lib.ListN.{length, getD}
+use lib.ListN.{length, getD, length-append}
 use Rattle.basis.specs.Lists.{sum, run, below, flat}
 
 pub length-run : (first many : ℕ) → length (run first many) ≡ many
@@ -67,3 +71,23 @@ sum-at-most f most zero each = omega arith
 sum-at-most f most (suc n) each =
     rw (sum-one-more f n, mul-suc most n)
     (omega (arith, sum-at-most f most n (λ i h. each i (omega arith)), each n (omega arith)))
+
+pub sum-of-same : (number n : ℕ) → sum (λ i. number) (below n) ≡ number * n
+sum-of-same number zero = sym (mul-zero number)
+sum-of-same number (suc n) = rw (sum-one-more (λ i. number) n, mul-suc number n, sum-of-same number n)
+
+pub sum-scaled : (factor : ℕ) (f : ℕ → ℕ) (n : ℕ) → sum (λ i. factor * f i) (below n) ≡ factor * sum f (below n)
+sum-scaled factor f zero = sym (mul-zero factor)
+sum-scaled factor f (suc n) =
+    rw (sum-one-more (λ i. factor * f i) n, sum-one-more f n, mul-add factor (sum f (below n)) (f n), sum-scaled factor f n)
+
+pub joined-one-more : {A : Type 0} (list : ℕ → List A) (n : ℕ) →
+    flat (map list (below (suc n))) ≡ flat (map list (below n)) ++ list n
+joined-one-more list n = ap flat (map-one-more list n) ∙ flat-one-more (map list (below n)) (list n)
+
+pub length-flat : {A : Type 0} (list : ℕ → List A) (long : ℕ → ℕ) → ((i : ℕ) → length (list i) ≡ long i) → (n : ℕ) →
+    length (flat (map list (below n))) ≡ sum long (below n)
+length-flat list long each zero = refl
+length-flat list long each (suc n) =
+    ap length (joined-one-more list n)
+    ∙ rw (length-append, each n, length-flat list long each n) (sym (sum-one-more long n))

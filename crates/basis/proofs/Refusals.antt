@@ -4,6 +4,8 @@
 --   accepted-when-none   where no line holds, none answers
 --   none-when-accepted   where none answers, no line holds
 --   each-fails           line by line
+--   first-of-earlier     of two tables in a row, what answers in the first answers
+--   first-of-later       and where nothing does, what answers in the second
 use mathlib.Core.Path.{_≡_, refl, ap, sym, _∙_}
 use mathlib.Core.Logic.{_⊎_, inl, inr}
 use mathlib.Core.List.{List, [], _∷_, _++_}
@@ -71,3 +73,21 @@ each-fails [] none′ = tt
 each-fails (line ∷ lines) none′ =
     let apart = neither (line .holds) (any (λ line. line .holds) lines) none′ in
     (apart .0, each-fails lines (apart .1))
+
+pub first-of-earlier : (lines more : List Line) (line : Line) → firstLine lines ≡ some line → firstLine (lines ++ more) ≡ some line
+first-of-earlier [] more line e = absurd (Option·none-ne-some line e)
+first-of-earlier (l ∷ lines) more line e = go (either (l .holds)) (first-of-earlier lines more line)
+  where
+    go : (l .holds ≡ true) ⊎ (l .holds ≡ false) → (firstLine lines ≡ some line → firstLine (lines ++ more) ≡ some line) →
+        firstLine (l ∷ (lines ++ more)) ≡ some line
+    go (inl h) rest = answers l (lines ++ more) h ∙ sym (answers l lines h) ∙ e
+    go (inr h) rest = passed-over l (lines ++ more) h ∙ rest (sym (passed-over l lines h) ∙ e)
+
+pub first-of-later : (lines more : List Line) → firstLine lines ≡ none → firstLine (lines ++ more) ≡ firstLine more
+first-of-later [] more e = refl
+first-of-later (l ∷ lines) more e = go (either (l .holds)) (first-of-later lines more)
+  where
+    go : (l .holds ≡ true) ⊎ (l .holds ≡ false) → (firstLine lines ≡ none → firstLine (lines ++ more) ≡ firstLine more) →
+        firstLine (l ∷ (lines ++ more)) ≡ firstLine more
+    go (inl h) rest = absurd (Option·some-ne-none l (sym (answers l lines h) ∙ e))
+    go (inr h) rest = passed-over l (lines ++ more) h ∙ rest (sym (passed-over l lines h) ∙ e)

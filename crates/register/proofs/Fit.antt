@@ -1,5 +1,6 @@
 -- What is known of a file that opened: every condition of the table has been tried and does not hold. Assumes nothing.
 --   Fit                 the facts, in plain numbers
+--   opened-passes       where a file opens, no line of the table answers
 --   opened-is-fit       a file that opens has them
 --   fit-is-opened       a file that has them opens
 use Prim.Native.Nat.{ℕ, _+_, _*_, _≤_, _<_}
@@ -44,6 +45,10 @@ none-answers : (lines : Option Line) (shape shape′ : Shape) →
     answerBy (λ line. Refused (refusal line)) (Register shape) lines ≡ Register shape′ → (lines ≡ none) × (shape ≡ shape′)
 none-answers none shape shape′ e = (refl, cc)
 none-answers (some line) shape shape′ e = let z : _≡_ {A = ℕ} 0 1 = cc in absurd (omega arith)
+
+pub opened-passes : (file : List ℕ) (shape : Shape) → openedOf file ≡ Register shape → firstLine (openLines file) ≡ none
+unfolding openedOf
+opened-passes file shape e = none-answers (firstLine (openLines file)) (shapeIn file) shape e .0
 
 pub opened-is-fit : (file : List ℕ) (shape : Shape) → openedOf file ≡ Register shape → Fit file × (shape ≡ shapeIn file)
 unfolding openedOf openLines

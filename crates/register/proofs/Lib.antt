@@ -1,6 +1,7 @@
 -- The laws of a register's file and of opening it.
 pub mod Opening
 pub mod Fit
+pub mod PassedOn
 pub mod Directory
 pub mod Body
 pub mod Settled

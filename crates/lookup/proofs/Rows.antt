@@ -1,0 +1,40 @@
+-- What an opened file says of a row that is looked up. Assumes nothing.
+--   narrow          the column's width is at most the widest
+--   row-within      the row's byte of every slice stands in the file
+--   code-gathered   the row's code is its gathered bytes, joined
+use Prim.Native.Nat.{ℕ, _≤_, _<_}
+use native.Mathlib.Omega.{arith}
+use mathlib.Core.Path.{_≡_, refl, ap, subst}
+use mathlib.Core.List.{List}
+use Rattle.codes.specs.Width.{widest}
+use Rattle.codes.specs.Bytes.{joined}
+use Rattle.register.specs.declared.Shape.{Shape}
+use Rattle.register.specs.declared.Opened.the-variants.{Register}
+use Rattle.register.specs.File.{rowsIn, columnsIn, widthIn, offsetIn}
+use Rattle.register.specs.Cells.{byteAt, bytesAt, codeAt}
+use Rattle.register.specs.Opening.{openedOf}
+use Rattle.register.proofs.Fit.{opened-is-fit}
+use Rattle.register.proofs.Directory.{fit-column}
+use Rattle.register.proofs.Body.{in-the-file}
+use Rattle.lookup.specs.Steps.{RowWithin, gathered}
+
+module _ (file : List ℕ) (shape : Shape) (opened : openedOf file ≡ Register shape) (column : ℕ) (there : column < shape .columns) where
+  -- the shape is the file's
+  same-rows : shape .rows ≡ rowsIn file
+  same-rows = ap (λ (s : Shape). s .rows) (opened-is-fit file shape opened .1)
+
+  column-there : column < columnsIn file
+  column-there = omega (arith, ap (λ (s : Shape). s .columns) (opened-is-fit file shape opened .1))
+
+  pub narrow : widthIn file column ≤ widest
+  narrow = fit-column file column (opened-is-fit file shape opened .0 .each-fit column column-there) .narrow
+
+  pub row-within : (row : ℕ) → row < shape .rows → RowWithin file (widthIn file column) (offsetIn file column) (shape .rows) row
+  row-within row below slice inside =
+      rw same-rows
+      (in-the-file file (opened-is-fit file shape opened .0) column slice row column-there inside (omega (arith, same-rows)))
+
+  pub code-gathered : (row : ℕ) →
+      codeAt file column row ≡ joined (widthIn file column) (gathered file (widthIn file column) (offsetIn file column) (shape .rows) row)
+  unfolding codeAt bytesAt byteAt
+  code-gathered row = rw same-rows

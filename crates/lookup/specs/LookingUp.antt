@@ -1,0 +1,53 @@
+-- Looking up: the opening's refusal, then 12, 15, 10, or the code of each row that is listed. Assumes nothing.
+use Prim.Native.Nat.{ℕ}
+use mathlib.Core.List.{List, [], _∷_, _++_, map}
+use lib.Dec.{leb, ltb}
+use lib.ListN.{length, getD}
+use Rattle.basis.specs.Places.{firstPlace}
+use Rattle.basis.specs.Refusals.{Line, refuse, refuseAt, refuseFor, firstLine, answerBy}
+use Rattle.basis.specs.Buffers.{laid}
+use Rattle.register.specs.File.{rowsIn, columnsIn}
+use Rattle.register.specs.Cells.{codeAt}
+use Rattle.register.specs.Answers.{refusal}
+use Rattle.register.specs.Opening.{openLines}
+use Rattle.lookup.specs.declared.LookedUp.{LookedUp}
+use Rattle.lookup.specs.declared.LookedUp.the-variants.{Codes, Refused}
+use Rattle.lookup.specs.Answers.{Shown}
+
+-- the lowest index in the list of a row number that is not below the rows
+abbrev pub firstMissing : ℕ → List ℕ → ℕ
+firstMissing rows list = firstPlace (λ i. leb rows (getD list i 0)) (length list)
+
+-- the code of each listed row, in the list's order
+unfoldable pub codesOf : List ℕ → ℕ → List ℕ → List ℕ
+codesOf file column list = map (codeAt file column) list
+
+module _ (file : List ℕ) (column : ℕ) (list : List ℕ) (room : ℕ) where
+  -- 12: no such column
+  -- 15: a row number is not below the rows; place: the lowest index of such a one
+  -- 10: the output is too short; need: the length of the list
+  unfoldable pub ownLines : List Line
+  ownLines =
+      refuse 12 (leb (columnsIn file) column)
+      ∷ refuseAt 15 (ltb (firstMissing (rowsIn file) list) (length list)) (firstMissing (rowsIn file) list)
+      ∷ refuseFor 10 (ltb room (length list)) (length list)
+      ∷ []
+
+  -- the file is opened first
+  abbrev pub lookUpLines : List Line
+  lookUpLines = openLines file ++ ownLines
+
+  -- the answer
+  unfoldable pub lookedUpOf : LookedUp
+  lookedUpOf = answerBy (λ line. Refused (refusal line)) (Codes (length list)) (firstLine lookUpLines)
+
+  -- what is shown, from the same table
+  unfoldable pub shownFor : Shown
+  shownFor =
+      answerBy (λ line. record { number = line .number; place = line .place; need = line .need; codes = 0 })
+      (record { number = 0; place = 0; need = 0; codes = length list }) (firstLine lookUpLines)
+
+-- what the output then holds: the codes, and after them what was there before; refused, all that was there before
+unfoldable pub leftIn : List ℕ → ℕ → List ℕ → List ℕ → List ℕ
+leftIn file column list out =
+    answerBy (λ line. out) (laid out 0 (codesOf file column list)) (firstLine (lookUpLines file column list (length out)))

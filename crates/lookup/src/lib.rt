@@ -1,0 +1,107 @@
+// Looks codes up: a column and a list of rows, in any order and with repeats, give one code each.
+use register::Opened;
+use register::Refusal;
+use register::Shape;
+ghost use mathlib.Core.Path.{_≡_};
+ghost use Prim.Native.Nat.{_<_, _≤_};
+ghost use lib.ListN.{length};
+ghost use Rattle.basis.specs.Buffers.{laid};
+ghost use Rattle.register.specs.declared.Opened.the-variants.{Register};
+ghost use Rattle.register.specs.Opening.{openedOf};
+ghost use Rattle.codes.specs.Width.{widest};
+ghost use Rattle.codes.specs.Bytes.{joined};
+ghost use Rattle.lookup.specs.Steps.{AllBelow, RowWithin, gathered};
+ghost use Rattle.lookup.specs.Answers.{refusedWith, shownOf};
+ghost use Rattle.lookup.specs.LookingUp.{firstMissing, codesOf, lookedUpOf, shownFor, leftIn};
+
+// The answer to looking up: how many codes were written, or the refusal.
+pub enum LookedUp {
+    Codes(usize),
+    Refused(Refusal),
+}
+
+// Writes the code that each listed row has in a column to the front of `out`. Refused, it changes
+// nothing.
+pub fn look_up(file: &[u8], column: usize, rows: &[u32], out: &mut [u64]) -> LookedUp
+    ensures answer { λ r. ⌜ r ≡ lookedUpOf (now (file .entry)) column (now (rows .entry)) (length (now (out .entry))) ⌝ }
+    ensures shown { λ r. ⌜ shownOf r ≡ shownFor (now (file .entry)) column (now (rows .entry)) (length (now (out .entry))) ⌝ }
+    ensures left { λ r. ⌜ now (out .exit) ≡ leftIn (now (file .entry)) column (now (rows .entry)) (now (out .entry)) ⌝ }
+{
+    let opened = register::open(file);
+    let Opened::Register(shape) = opened else {
+        return LookedUp::Refused(register::refusal_of(opened));
+    };
+    if shape.columns <= column {
+        return refused(12, 0, 0);
+    }
+    let missing = first_missing(shape.rows, rows);
+    if missing < rows.len() {
+        return refused(15, missing, 0);
+    }
+    if out.len() < rows.len() {
+        return refused(10, 0, rows.len());
+    }
+    write_codes(file, shape, column, rows, out);
+    LookedUp::Codes(rows.len())
+}
+
+fn refused(number: usize, place: usize, need: usize) -> LookedUp
+    ensures { λ r. ⌜ r ≡ refusedWith number place need ⌝ }
+{
+    LookedUp::Refused(Refusal {
+        number,
+        place,
+        need,
+    })
+}
+
+fn wide(row: u32) -> usize
+    ensures { λ r. ⌜ r ≡ row ⌝ }
+{
+    row as usize
+}
+
+// The lowest index of a row number that is not below the rows, or the length of the list.
+fn first_missing(rows: usize, list: &[u32]) -> usize
+    ensures { λ r. ⌜ r ≡ firstMissing rows (now (list .entry)) ⌝ }
+{
+    let mut i = 0;
+    while i < list.len() {
+        if rows <= wide(list[i]) {
+            return i;
+        }
+        i = i + 1;
+    }
+    i
+}
+
+// Writes the code of each listed row to the front, one for each.
+fn write_codes(file: &[u8], shape: Shape, column: usize, list: &[u32], out: &mut [u64])
+    requires { ⌜ (openedOf (now file) ≡ Register shape) × (column < shape .columns) × (length (now list) ≤ length (now out)) ⌝ }
+    requires { ⌜ AllBelow (shape .rows) (now list) ⌝ }
+    ensures { λ _. ⌜ now (out .exit) ≡ laid (now (out .entry)) 0 (codesOf (now (file .entry)) column (now (list .entry))) ⌝ }
+{
+    let width = register::width_at(file, shape, column);
+    let offset = register::offset_at(file, shape, column);
+    let rows = shape.rows;
+    let mut i = 0;
+    while i < list.len() {
+        out[i] = code_of(file, width, offset, rows, wide(list[i]));
+        i = i + 1;
+    }
+}
+
+// The code of a row: its bytes are gathered from the slices of a column that starts at the offset.
+fn code_of(file: &[u8], width: u8, offset: usize, rows: usize, row: usize) -> u64
+    requires { ⌜ (width ≤ widest) × RowWithin (now file) width offset rows row ⌝ }
+    ensures { λ r. ⌜ r ≡ joined width (gathered (now (file .entry)) width offset rows row) ⌝ }
+{
+    let slices = codes::slices_of(width);
+    let mut bytes = [0u8; 4];
+    let mut slice = 0;
+    while slice < slices {
+        bytes[slice] = file[offset + slice * rows + row];
+        slice = slice + 1;
+    }
+    codes::join(width, &bytes[..slices])
+}

@@ -1,0 +1,23 @@
+-- The laws of the schedule.
+pub mod Standing
+pub mod Adding
+pub mod Fewer
+pub mod MoreTests
+pub mod Reordered
+pub mod NoTests
+pub mod Numbered
+pub mod Segments
+pub mod BySegment
+pub mod Alike
+pub mod Agreement
+pub mod InOneSegment
+pub mod Bounds
+pub mod Earlier
+pub mod Unread
+pub mod EarlyEnd
+pub mod RuledOutWhen
+pub mod Six
+pub mod TrueWhen
+pub mod FirstBytes
+pub mod Meets
+pub mod Settled
