@@ -17,10 +17,10 @@ use native.Mathlib.Omega.{arith}
 use native.Mathlib.Nat.{add-zero, zero-add}
 use native.Mathlib.Numerals.{add-one}
 use mathlib.Core.Path.{_≡_, refl, sym, ap, _∙_}
-use mathlib.Core.List.{List, [], _∷_, _++_, map, map-append, append-assoc}
+use mathlib.Core.List.{List, [], _∷_, _++_, map, map-append, append-assoc, flatten}
 use lib.ListN.{length, getD, take, drop, set, length-append, length-take, length-drop, length-map, length-set, take-append-drop}
 use lib.Seq.{take-at, take-suc, drop-at, drop-drop, set-split, length-take-le}
-use Rattle.basis.specs.Lists.{below, flat}
+use Rattle.basis.specs.Lists.{below}
 use Rattle.basis.specs.Buffers.{laid}
 use Rattle.basis.proofs.Lists.{length-run, map-one-more, joined-one-more}
 
@@ -115,9 +115,9 @@ module _ {A : Type 0} (buffer : List A) (at : ℕ) where
       let long = length-map (below n) f ∙ length-run 0 n in
       rw (add-one n, map-one-more f n) (filled-store (map f (below n)) (at + n) (f n) before (omega arith) room)
 
-  pub filled-list : (f : ℕ → List A) (n : ℕ) {out after : List A} (place : ℕ) → Filled buffer at (flat (map f (below n))) out →
-      place ≡ at + length (flat (map f (below n))) → place + length (f n) ≤ length buffer → after ≡ laid out place (f n) →
-      Filled buffer at (flat (map f (below (n + 1)))) after
+  pub filled-list : (f : ℕ → List A) (n : ℕ) {out after : List A} (place : ℕ) → Filled buffer at (flatten (map f (below n))) out →
+      place ≡ at + length (flatten (map f (below n))) → place + length (f n) ≤ length buffer → after ≡ laid out place (f n) →
+      Filled buffer at (flatten (map f (below (n + 1)))) after
   filled-list f n place before right room said =
       rw (add-one n, joined-one-more f n)
-      (filled-more (flat (map f (below n))) place (f n) before right room said)
+      (filled-more (flatten (map f (below n))) place (f n) before right room said)

@@ -3,21 +3,21 @@
 --   run-at            and counts up from its first
 --   below-one-more    the numbers below n + 1 end with n
 --   map-one-more      and so does what is made of each
---   flat-one-more     lists joined, and one more
+--   flatten-one-more     lists joined, and one more
 --   sum-one-more      the sum over the numbers below n + 1 ends with n
 --   sum-grows         more terms, no smaller a sum
 --   sum-at-most       a bound on each term bounds the sum
 --   sum-of-same       a sum of one number over and over is a product
 --   sum-scaled        a common factor comes out of a sum
 --   joined-one-more   what is joined of each number below n + 1 ends with n's
---   length-flat       lists joined are as long as all of them together
+--   length-flatten       lists joined are as long as all of them together
 use Prim.Native.Nat.{ℕ, zero, suc, _+_, _*_, _≤_, _<_}
 use native.Mathlib.Omega.{arith}
 use native.Mathlib.Nat.{add-zero, mul-zero, mul-suc, mul-add, le-dest}
 use mathlib.Core.Path.{_≡_, refl, sym, ap, _∙_}
-use mathlib.Core.List.{List, [], _∷_, _++_, map, map-append, append-nil, append-assoc}
+use mathlib.Core.List.{List, [], _∷_, _++_, map, map-append, append-nil, append-assoc, flatten}
 use lib.ListN.{length, getD, length-append}
-use Rattle.basis.specs.Lists.{sum, run, below, flat}
+use Rattle.basis.specs.Lists.{sum, run, below}
 
 pub length-run : (first many : ℕ) → length (run first many) ≡ many
 length-run first zero = refl
@@ -42,9 +42,10 @@ below-one-more n =
 pub map-one-more : {B : Type 0} (f : ℕ → B) (n : ℕ) → map f (below (suc n)) ≡ map f (below n) ++ (f n ∷ [])
 map-one-more f n = ap (map f) (below-one-more n) ∙ map-append f (below n) (n ∷ [])
 
-pub flat-one-more : {A : Type 0} (lists : List (List A)) (list : List A) → flat (lists ++ (list ∷ [])) ≡ flat lists ++ list
-flat-one-more [] list = append-nil list
-flat-one-more (xs ∷ lists) list = ap (λ rest. xs ++ rest) (flat-one-more lists list) ∙ sym (append-assoc xs (flat lists) list)
+pub flatten-one-more : {A : Type 0} (lists : List (List A)) (list : List A) → flatten (lists ++ (list ∷ [])) ≡ flatten lists ++ list
+unfolding flatten
+flatten-one-more [] list = append-nil list
+flatten-one-more (xs ∷ lists) list = ap (λ rest. xs ++ rest) (flatten-one-more lists list) ∙ sym (append-assoc xs (flatten lists) list)
 
 sum-run : (f : ℕ → ℕ) (first many : ℕ) → sum f (run first (suc many)) ≡ sum f (run first many) + f (first + many)
 sum-run f first zero = rw (add-zero first) (omega arith)
@@ -82,12 +83,13 @@ sum-scaled factor f (suc n) =
     rw (sum-one-more (λ i. factor * f i) n, sum-one-more f n, mul-add factor (sum f (below n)) (f n), sum-scaled factor f n)
 
 pub joined-one-more : {A : Type 0} (list : ℕ → List A) (n : ℕ) →
-    flat (map list (below (suc n))) ≡ flat (map list (below n)) ++ list n
-joined-one-more list n = ap flat (map-one-more list n) ∙ flat-one-more (map list (below n)) (list n)
+    flatten (map list (below (suc n))) ≡ flatten (map list (below n)) ++ list n
+joined-one-more list n = ap flatten (map-one-more list n) ∙ flatten-one-more (map list (below n)) (list n)
 
-pub length-flat : {A : Type 0} (list : ℕ → List A) (long : ℕ → ℕ) → ((i : ℕ) → length (list i) ≡ long i) → (n : ℕ) →
-    length (flat (map list (below n))) ≡ sum long (below n)
-length-flat list long each zero = refl
-length-flat list long each (suc n) =
+pub length-flatten : {A : Type 0} (list : ℕ → List A) (long : ℕ → ℕ) → ((i : ℕ) → length (list i) ≡ long i) → (n : ℕ) →
+    length (flatten (map list (below n))) ≡ sum long (below n)
+unfolding flatten
+length-flatten list long each zero = refl
+length-flatten list long each (suc n) =
     ap length (joined-one-more list n)
-    ∙ rw (length-append, each n, length-flat list long each n) (sym (sum-one-more long n))
+    ∙ rw (length-append, each n, length-flatten list long each n) (sym (sum-one-more long n))

@@ -1,6 +1,6 @@
 -- A test of some element of a list or of all, a sum over it, and consecutive numbers. Assumes nothing.
 use Prim.Native.Nat.{ℕ, zero, suc, _+_}
-use mathlib.Core.List.{List, [], _∷_, _++_}
+use mathlib.Core.List.{List, [], _∷_}
 use mathlib.Core.Bool.{Bool, true, false, _&&_, _||_}
 
 -- some element passes
@@ -26,8 +26,3 @@ run first (suc many) = first ∷ run (suc first) many
 -- the numbers below n, rising
 abbrev pub below : ℕ → List ℕ
 below n = run 0 n
-
--- lists joined in their order
-abbrev pub flat : {A : Type 0} → List (List A) → List A
-flat [] = []
-flat (xs ∷ rest) = xs ++ flat rest

@@ -1,0 +1,2 @@
+-- What is written is looked up again.
+pub mod ReadBack

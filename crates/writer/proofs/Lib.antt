@@ -1,0 +1,6 @@
+-- The laws of a written register and of writing it.
+pub mod Lengths
+pub mod Columns
+pub mod Writing
+pub mod Fit
+pub mod Settled

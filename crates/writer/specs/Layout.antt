@@ -1,0 +1,57 @@
+-- The one file of a register: rows, the widths of its columns, and its codes row after row. Assumes nothing.
+use Prim.Native.Nat.{ℕ, _+_, _*_}
+use mathlib.Core.List.{List, [], _∷_, _++_, map, flatten}
+use lib.ListN.{length, getD}
+use Rattle.basis.specs.Lists.{below}
+use Rattle.basis.specs.Numbers.{toLittle}
+use Rattle.codes.specs.Width.{slicesOf}
+use Rattle.codes.specs.Bytes.{byteOf}
+use Rattle.register.specs.Layout.{bytesBefore}
+use Rattle.register.specs.File.{markBytes}
+
+-- the width of a column
+abbrev pub widthOf : List ℕ → ℕ → ℕ
+widthOf widths column = getD widths column 0
+
+-- the code of a row in a column, codes standing row after row
+abbrev pub codeOf : List ℕ → List ℕ → ℕ → ℕ → ℕ
+codeOf widths codes row column = getD codes (row * length widths + column) 0
+
+module _ (rows : ℕ) (widths codes : List ℕ) where
+  -- a slice of a column: its byte of every row, in row order
+  unfoldable pub sliceOf : ℕ → ℕ → List ℕ
+  sliceOf column slice = map (λ row. byteOf (widthOf widths column) (codeOf widths codes row column) slice) (below rows)
+
+  -- a column: its slices in their order
+  unfoldable pub columnOf : ℕ → List ℕ
+  columnOf column = flatten (map (sliceOf column) (below (slicesOf (widthOf widths column))))
+
+  -- the body: the slices of column 0, then of column 1, and so on
+  unfoldable pub bodyOf : List ℕ
+  bodyOf = flatten (map columnOf (below (length widths)))
+
+-- an entry of the directory: width, three zero bytes, offset of the column's slice 1 (4 bytes)
+unfoldable pub entryWith : ℕ → ℕ → List ℕ
+entryWith width offset = width ∷ 0 ∷ 0 ∷ 0 ∷ toLittle 4 offset
+
+-- the trailer: rows (4 bytes), columns (2), version 1 (2), offset of the directory (4), mark
+unfoldable pub trailerWith : ℕ → ℕ → ℕ → List ℕ
+trailerWith rows columns directory =
+    toLittle 4 rows ++ (toLittle 2 columns ++ (toLittle 2 1 ++ (toLittle 4 directory ++ markBytes)))
+
+module _ (rows : ℕ) (widths : List ℕ) where
+  -- the directory: an entry a column
+  unfoldable pub directoryOf : List ℕ
+  directoryOf =
+      flatten (map (λ column. entryWith (widthOf widths column) (bytesBefore rows (widthOf widths) column)) (below (length widths)))
+
+  unfoldable pub trailerOf : List ℕ
+  trailerOf = trailerWith rows (length widths) (bytesBefore rows (widthOf widths) (length widths))
+
+  -- how long the file is
+  unfoldable pub fileLength : ℕ
+  fileLength = bytesBefore rows (widthOf widths) (length widths) + 8 * length widths + 16
+
+-- the file: body, directory, trailer
+unfoldable pub fileOf : ℕ → List ℕ → List ℕ → List ℕ
+fileOf rows widths codes = bodyOf rows widths codes ++ (directoryOf rows widths ++ trailerOf rows widths)

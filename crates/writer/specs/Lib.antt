@@ -1,0 +1,5 @@
+-- The file of a register, and what writing it answers.
+pub mod Layout
+pub mod Answers
+pub mod Writing
+pub mod Steps

@@ -1,0 +1,57 @@
+-- Writing a register: refusals 3, 4, 6, 9, 8, 10 in that order, or its file. Assumes nothing.
+use Prim.Native.Nat.{ℕ, _*_, _%_}
+use mathlib.Core.List.{List, [], _∷_}
+use mathlib.Core.Bool.{Bool, not, _||_}
+use lib.Dec.{ltb, eqb}
+use lib.ListN.{length, getD}
+use Rattle.basis.specs.Places.{firstPlace}
+use Rattle.basis.specs.Refusals.{Line, refuse, refuseAt, refuseFor, firstLine, answerBy}
+use Rattle.basis.specs.Buffers.{laid}
+use Rattle.codes.specs.Width.{unfitWidth, tooLarge}
+use Rattle.register.specs.Limits.{mostRows, mostColumns}
+use Rattle.register.specs.Answers.{refusal}
+use Rattle.writer.specs.declared.Written.{Written}
+use Rattle.writer.specs.declared.Written.the-variants.{Bytes, Refused}
+use Rattle.writer.specs.Layout.{widthOf, fileOf, fileLength}
+use Rattle.writer.specs.Answers.{Shown}
+
+-- the lowest column whose width fits no column
+abbrev pub firstUnfit : List ℕ → ℕ
+firstUnfit widths = firstPlace (λ column. unfitWidth (widthOf widths column)) (length widths)
+
+-- the lowest index of a code that is not below 2^k, k being the width of its column
+abbrev pub firstTooLarge : List ℕ → List ℕ → ℕ
+firstTooLarge widths codes =
+    firstPlace (λ i. tooLarge (widthOf widths (i % length widths)) (getD codes i 0)) (length codes)
+
+module _ (rows : ℕ) (widths codes : List ℕ) (room : ℕ) where
+  -- 3: too many rows
+  -- 4: no columns, or too many
+  -- 6: a width fits no column; place: the lowest such column
+  -- 9: the number of codes is not rows x columns
+  -- 8: a code is too large for its column; place: the lowest index of such a code
+  -- 10: the output is too short; need: the file's length
+  unfoldable pub writeLines : List Line
+  writeLines =
+      refuse 3 (ltb mostRows rows)
+      ∷ refuse 4 (eqb (length widths) 0 || ltb mostColumns (length widths))
+      ∷ refuseAt 6 (ltb (firstUnfit widths) (length widths)) (firstUnfit widths)
+      ∷ refuse 9 (not (eqb (length codes) (rows * length widths)))
+      ∷ refuseAt 8 (ltb (firstTooLarge widths codes) (length codes)) (firstTooLarge widths codes)
+      ∷ refuseFor 10 (ltb room (fileLength rows widths)) (fileLength rows widths)
+      ∷ []
+
+  -- the answer
+  unfoldable pub writtenOf : Written
+  writtenOf = answerBy (λ line. Refused (refusal line)) (Bytes (fileLength rows widths)) (firstLine writeLines)
+
+  -- what is shown, from the same table
+  unfoldable pub shownFor : Shown
+  shownFor =
+      answerBy (λ line. record { number = line .number; place = line .place; need = line .need; bytes = 0 })
+      (record { number = 0; place = 0; need = 0; bytes = fileLength rows widths }) (firstLine writeLines)
+
+-- what the output then holds: the file, and after it what was there before; refused, all that was there before
+unfoldable pub leftIn : ℕ → List ℕ → List ℕ → List ℕ → List ℕ
+leftIn rows widths codes out =
+    answerBy (λ line. out) (laid out 0 (fileOf rows widths codes)) (firstLine (writeLines rows widths codes (length out)))

@@ -1,0 +1,238 @@
+// Writes a register's file into a lent buffer: rows of codes become slices, one after the other,
+// and the directory and the trailer follow. Nothing is stored besides.
+use register::MOST_COLUMNS;
+use register::MOST_ROWS;
+use register::Refusal;
+ghost use mathlib.Core.Path.{_≡_};
+ghost use Prim.Native.Nat.{_+_, _*_, _≤_, _<_};
+ghost use lib.ListN.{length};
+ghost use Rattle.basis.specs.Buffers.{laid};
+ghost use Rattle.basis.specs.Numbers.{toLittle};
+ghost use Rattle.codes.specs.Width.{slicesOf};
+ghost use Rattle.register.specs.Layout.{slicesBefore, bytesBefore};
+ghost use Rattle.register.specs.Limits.{mostRows};
+ghost use Rattle.writer.specs.Layout.{widthOf, sliceOf, columnOf, bodyOf, entryWith, directoryOf, trailerWith, fileOf};
+ghost use Rattle.writer.specs.Steps.{FitWidths, FitCodes};
+ghost use Rattle.writer.specs.Answers.{refusedWith, shownOf};
+ghost use Rattle.writer.specs.Writing.{firstUnfit, firstTooLarge, writtenOf, shownFor, leftIn};
+
+// The answer to writing: how many bytes the file has, or the refusal.
+pub enum Written {
+    Bytes(usize),
+    Refused(Refusal),
+}
+
+// Writes the file of so many rows, with these widths and these codes, row after row, to the front
+// of `out`. Refused, it changes nothing.
+pub fn write(rows: usize, widths: &[u8], codes: &[u64], out: &mut [u8]) -> Written
+    ensures answer { λ r. ⌜ r ≡ writtenOf rows (now (widths .entry)) (now (codes .entry)) (length (now (out .entry))) ⌝ }
+    ensures shown { λ r. ⌜ shownOf r ≡ shownFor rows (now (widths .entry)) (now (codes .entry)) (length (now (out .entry))) ⌝ }
+    ensures left { λ r. ⌜ now (out .exit) ≡ leftIn rows (now (widths .entry)) (now (codes .entry)) (now (out .entry)) ⌝ }
+{
+    if MOST_ROWS < rows {
+        return refused(3, 0, 0);
+    }
+    let columns = widths.len();
+    if columns == 0 {
+        return refused(4, 0, 0);
+    }
+    if MOST_COLUMNS < columns {
+        return refused(4, 0, 0);
+    }
+    let unfit = first_unfit(widths);
+    if unfit < columns {
+        return refused(6, unfit, 0);
+    }
+    if codes.len() != rows * columns {
+        return refused(9, 0, 0);
+    }
+    let large = first_too_large(widths, codes);
+    if large < codes.len() {
+        return refused(8, large, 0);
+    }
+    let body = rows * slices_in(widths);
+    let need = body + 8 * columns + 16;
+    if out.len() < need {
+        return refused(10, 0, need);
+    }
+    write_parts(rows, widths, codes, body, out);
+    Written::Bytes(need)
+}
+
+fn refused(number: usize, place: usize, need: usize) -> Written
+    ensures { λ r. ⌜ r ≡ refusedWith number place need ⌝ }
+{
+    Written::Refused(Refusal {
+        number,
+        place,
+        need,
+    })
+}
+
+// The lowest column whose width fits none, or the number of columns.
+fn first_unfit(widths: &[u8]) -> usize
+    ensures { λ r. ⌜ r ≡ firstUnfit (now (widths .entry)) ⌝ }
+{
+    let mut column = 0;
+    while column < widths.len() {
+        if codes::unfit_width(widths[column]) {
+            return column;
+        }
+        column = column + 1;
+    }
+    column
+}
+
+// The lowest index of a code that is too large for its column, or the number of codes.
+fn first_too_large(widths: &[u8], codes: &[u64]) -> usize
+    requires { ⌜ FitWidths (now widths) ⌝ }
+    ensures { λ r. ⌜ r ≡ firstTooLarge (now (widths .entry)) (now (codes .entry)) ⌝ }
+{
+    let columns = widths.len();
+    let mut i = 0;
+    while i < codes.len() {
+        if codes::too_large(widths[i % columns], codes[i]) {
+            return i;
+        }
+        i = i + 1;
+    }
+    i
+}
+
+// How many slices all columns have.
+fn slices_in(widths: &[u8]) -> usize
+    requires { ⌜ FitWidths (now widths) ⌝ }
+    ensures { λ r. ⌜ (r ≡ slicesBefore (widthOf (now (widths .entry))) (length (now (widths .entry)))) × (r ≤ 128) ⌝ }
+{
+    let mut slices: usize = 0;
+    let mut column = 0;
+    while column < widths.len() {
+        slices = slices + codes::slices_of(widths[column]);
+        column = column + 1;
+    }
+    slices
+}
+
+// Writes body, directory and trailer, the body being so long.
+fn write_parts(rows: usize, widths: &[u8], codes: &[u64], body: usize, out: &mut [u8])
+    requires { ⌜ FitWidths (now widths) ⌝ }
+    requires { ⌜ FitCodes rows (now widths) (now codes) ⌝ }
+    requires { ⌜ (body ≡ bytesBefore rows (widthOf (now widths)) (length (now widths)))
+        × (body + 8 * length (now widths) + 16 ≤ length (now out)) ⌝ }
+    ensures { λ _. ⌜ now (out .exit) ≡ laid (now (out .entry)) 0 (fileOf rows (now (widths .entry)) (now (codes .entry))) ⌝ }
+{
+    let columns = widths.len();
+    write_body(rows, widths, codes, out);
+    write_directory(rows, widths, out, body);
+    write_trailer(rows, columns, body, out, body + 8 * columns);
+}
+
+// Writes the slices of all columns to the front.
+fn write_body(rows: usize, widths: &[u8], codes: &[u64], out: &mut [u8])
+    requires { ⌜ FitWidths (now widths) ⌝ }
+    requires { ⌜ FitCodes rows (now widths) (now codes) ⌝ }
+    requires { ⌜ bytesBefore rows (widthOf (now widths)) (length (now widths)) ≤ length (now out) ⌝ }
+    ensures { λ _. ⌜ now (out .exit) ≡ laid (now (out .entry)) 0 (bodyOf rows (now (widths .entry)) (now (codes .entry))) ⌝ }
+{
+    let mut slices: usize = 0;
+    let mut column = 0;
+    while column < widths.len() {
+        write_column(rows, widths, codes, column, out, rows * slices);
+        slices = slices + codes::slices_of(widths[column]);
+        column = column + 1;
+    }
+}
+
+// Writes the slices of one column from a place on.
+fn write_column(rows: usize, widths: &[u8], codes: &[u64], column: usize, out: &mut [u8], at: usize)
+    requires { ⌜ FitWidths (now widths) ⌝ }
+    requires { ⌜ FitCodes rows (now widths) (now codes) ⌝ }
+    requires { ⌜ (column < length (now widths)) × (at + rows * slicesOf (widthOf (now widths) column) ≤ length (now out)) ⌝ }
+    ensures { λ _. ⌜ now (out .exit) ≡ laid (now (out .entry)) at (columnOf rows (now (widths .entry)) (now (codes .entry)) column) ⌝ }
+{
+    let slices = codes::slices_of(widths[column]);
+    let mut slice = 0;
+    while slice < slices {
+        write_slice(rows, widths, codes, column, slice, out, at + rows * slice);
+        slice = slice + 1;
+    }
+}
+
+// Writes one slice of a column from a place on: its byte of every row.
+fn write_slice(
+    rows: usize,
+    widths: &[u8],
+    codes: &[u64],
+    column: usize,
+    slice: usize,
+    out: &mut [u8],
+    at: usize,
+)
+    requires { ⌜ FitWidths (now widths) ⌝ }
+    requires { ⌜ FitCodes rows (now widths) (now codes) ⌝ }
+    requires { ⌜ (column < length (now widths)) × (slice < slicesOf (widthOf (now widths) column)) × (at + rows ≤ length (now out)) ⌝ }
+    ensures { λ _. ⌜ now (out .exit) ≡ laid (now (out .entry)) at (sliceOf rows (now (widths .entry)) (now (codes .entry)) column slice) ⌝ }
+{
+    let columns = widths.len();
+    let width = widths[column];
+    let mut row = 0;
+    while row < rows {
+        let code = codes[row * columns + column];
+        out[at + row] = codes::byte_of(width, code, slice);
+        row = row + 1;
+    }
+}
+
+// Writes the directory from a place on: an entry a column.
+fn write_directory(rows: usize, widths: &[u8], out: &mut [u8], at: usize)
+    requires { ⌜ FitWidths (now widths) ⌝ }
+    requires { ⌜ (rows ≤ mostRows) × (at + 8 * length (now widths) ≤ length (now out)) ⌝ }
+    ensures { λ _. ⌜ now (out .exit) ≡ laid (now (out .entry)) at (directoryOf rows (now (widths .entry))) ⌝ }
+{
+    let mut slices: usize = 0;
+    let mut column = 0;
+    while column < widths.len() {
+        let width = widths[column];
+        write_entry(width, rows * slices, out, at + 8 * column);
+        slices = slices + codes::slices_of(width);
+        column = column + 1;
+    }
+}
+
+// Writes one entry of the directory.
+fn write_entry(width: u8, offset: usize, out: &mut [u8], at: usize)
+    requires { ⌜ at + 8 ≤ length (now out) ⌝ }
+    ensures { λ _. ⌜ now (out .exit) ≡ laid (now (out .entry)) at (entryWith width offset) ⌝ }
+{
+    out[at] = width;
+    out[at + 1] = 0;
+    out[at + 2] = 0;
+    out[at + 3] = 0;
+    write_number(offset, 4, out, at + 4);
+}
+
+// Writes the trailer.
+fn write_trailer(rows: usize, columns: usize, directory: usize, out: &mut [u8], at: usize)
+    requires { ⌜ at + 16 ≤ length (now out) ⌝ }
+    ensures { λ _. ⌜ now (out .exit) ≡ laid (now (out .entry)) at (trailerWith rows columns directory) ⌝ }
+{
+    write_number(rows, 4, out, at);
+    write_number(columns, 2, out, at + 4);
+    write_number(1, 2, out, at + 6);
+    write_number(directory, 4, out, at + 8);
+    write_number(register::MARK, 4, out, at + 12);
+}
+
+// Writes a number in so many bytes, the least significant first.
+fn write_number(number: usize, bytes: usize, out: &mut [u8], at: usize)
+    requires { ⌜ at + bytes ≤ length (now out) ⌝ }
+    ensures { λ _. ⌜ now (out .exit) ≡ laid (now (out .entry)) at (toLittle bytes number) ⌝ }
+{
+    let mut rest = number;
+    let mut i = 0;
+    while i < bytes {
+        out[at + i] = (rest % 256) as u8;
+        rest = rest / 256;
+        i = i + 1;
+    }
+}
