@@ -13,7 +13,6 @@ use native.Mathlib.Omega.{arith}
 use native.Mathlib.Nat.{pow-suc, pow-le-pow-right, lt-of-lt-of-le}
 use mathlib.Core.Path.{_≡_, refl, ap}
 use mathlib.Core.List.{List, [], _∷_}
-use mathlib.Core.Bool.{_&&_}
 use lib.Dec.{T, ltb, ltb→lt}
 use borrow.Author.Tests.{lt-ltb}
 use lib.ListN.{length, getD, drop}

@@ -1,7 +1,7 @@
 -- How the bytes of two codes compare. All comparisons are of whole numbers, so of unsigned bytes. Assumes nothing.
 use Prim.Native.Nat.{ℕ, compare, Ordering, Ordering·lt, Ordering·eq, Ordering·gt}
 use mathlib.Core.List.{List, [], _∷_}
-use mathlib.Core.Bool.{Bool, cond}
+use mathlib.Core.Bool.{cond}
 use lib.Dec.{ltb}
 
 -- what is known already stands; what is equal so far is left to the rest

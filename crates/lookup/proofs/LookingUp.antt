@@ -6,13 +6,13 @@
 --   looked-up                  none of them
 use Prim.Native.Nat.{ℕ, _≤_, _<_}
 use mathlib.Core.Path.{_≡_, refl, sym, ap, _∙_}
-use mathlib.Core.List.{List, _++_}
+use mathlib.Core.List.{List}
 use mathlib.Core.Bool.{true, false}
-use mathlib.Core.Option.{Option, none, some}
+use mathlib.Core.Option.{none, some}
 use borrow.Author.Tests.{lt-ltb, le-ltb, le-leb, lt-leb}
 use lib.Dec.{leb, ltb}
 use lib.ListN.{length}
-use Rattle.basis.specs.Refusals.{Line, refuse, refuseAt, refuseFor, firstLine, answerBy}
+use Rattle.basis.specs.Refusals.{Line, refuse, refuseAt, refuseFor, firstLine}
 use Rattle.basis.specs.Buffers.{laid}
 use Rattle.register.specs.declared.Refusal.{Refusal}
 use Rattle.register.specs.declared.Shape.{Shape}

@@ -4,7 +4,7 @@
 --   code-gathered   the row's code is its gathered bytes, joined
 use Prim.Native.Nat.{ℕ, _≤_, _<_}
 use native.Mathlib.Omega.{arith}
-use mathlib.Core.Path.{_≡_, refl, ap, subst}
+use mathlib.Core.Path.{_≡_, ap}
 use mathlib.Core.List.{List}
 use Rattle.codes.specs.Width.{widest}
 use Rattle.codes.specs.Bytes.{joined}

@@ -1,10 +1,10 @@
 -- Every byte that a row has in a column of an opened file lies in the file's body, before its directory. Assumes nothing.
+--   among-all     the slices before a column, and its own, are among all slices
 --   in-the-body   before the directory
 --   in-the-file   so within the file
 use Prim.Native.Nat.{ℕ, suc, _+_, _*_, _≤_, _<_}
 use native.Mathlib.Omega.{arith}
 use native.Mathlib.Nat.{mul-le-mul-left, mul-add, mul-suc, mul-comm}
-use mathlib.Core.Path.{_≡_}
 use mathlib.Core.List.{List}
 use lib.ListN.{length}
 use Rattle.basis.proofs.Lists.{sum-grows}
@@ -20,7 +20,7 @@ within-slices rows slices slice row h k =
     omega (arith, mul-le-mul-left rows k, mul-suc rows slice, mul-comm slice rows)
 
 -- all slices before a column, and its own, are among the slices of the file
-among-all : (width : ℕ → ℕ) (column columns : ℕ) → column < columns →
+pub among-all : (width : ℕ → ℕ) (column columns : ℕ) → column < columns →
     slicesBefore width column + slicesOf (width column) ≤ slicesBefore width columns
 unfolding slicesBefore
 among-all width column columns h =

@@ -5,9 +5,9 @@
 --   fit-is-opened       a file that has them opens
 use Prim.Native.Nat.{ℕ, _+_, _*_, _≤_, _<_}
 use native.Mathlib.Omega.{arith}
-use mathlib.Core.Path.{_≡_, refl, sym, ap, _∙_}
+use mathlib.Core.Path.{_≡_, refl, sym}
 use mathlib.Core.List.{List}
-use mathlib.Core.Bool.{Bool, true, false, not}
+use mathlib.Core.Bool.{false, not}
 use mathlib.Core.Option.{Option, none, some}
 use lib.ListN.{length}
 use lib.Dec.{ltb, eqb}
@@ -17,7 +17,6 @@ use Rattle.basis.proofs.Truth.{neither}
 use Rattle.basis.proofs.Refusals.{none-when-accepted, each-fails}
 use Rattle.basis.proofs.Places.{none-before-first, first-is-none}
 use Rattle.register.specs.declared.Shape.{Shape}
-use Rattle.register.specs.declared.Opened.{Opened}
 use Rattle.register.specs.declared.Opened.the-variants.{Register, Refused}
 use Rattle.register.specs.Limits.{mostRows, mostColumns}
 use Rattle.register.specs.Layout.{bytesBefore}

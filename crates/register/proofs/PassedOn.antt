@@ -11,7 +11,6 @@ use Rattle.basis.specs.Refusals.{Line, firstLine, answerBy}
 use Rattle.basis.proofs.Refusals.{first-of-earlier, first-of-later}
 use Rattle.register.specs.declared.Refusal.{Refusal}
 use Rattle.register.specs.declared.Shape.{Shape}
-use Rattle.register.specs.declared.Opened.{Opened}
 use Rattle.register.specs.declared.Opened.the-variants.{Register, Refused}
 use Rattle.register.specs.Answers.{refusal}
 use Rattle.register.specs.Opening.{openLines, openedOf}

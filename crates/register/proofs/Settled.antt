@@ -2,7 +2,7 @@
 use Prim.Native.Nat.{ℕ}
 use mathlib.Core.Path.{_≡_, refl}
 use mathlib.Core.List.{List, [], _∷_}
-use lib.ListN.{length, take}
+use lib.ListN.{take}
 use Rattle.basis.specs.Places.{firstPlace}
 use Rattle.basis.specs.Numbers.{little, numberAt}
 use Rattle.codes.specs.Width.{unfitWidth, slicesOf, padOf}
@@ -12,7 +12,7 @@ use Rattle.register.specs.Layout.{slicesBefore}
 use Rattle.register.specs.File.{trailerIn, entryIn, mark, widthIn, offsetIn, unfitEntry, unfitColumn}
 use Rattle.register.specs.Cells.{byteAt, bytesAt, codeAt}
 use Rattle.register.specs.Answers.{refusedWith}
-use Rattle.register.specs.Opening.{openLines, openedOf, shownFor}
+use Rattle.register.specs.Opening.{openLines, openedOf}
 
 -- P2's file: two rows, one column of 11 bits, codes 5 and 1024
 unfoldable pub two-rows : List ℕ

@@ -2,7 +2,6 @@
 use Prim.Native.Nat.{ℕ}
 use Rattle.basis.specs.Refusals.{Line}
 use Rattle.register.specs.declared.Refusal.{Refusal}
-use Rattle.register.specs.declared.Shape.{Shape}
 use Rattle.register.specs.declared.Opened.{Opened}
 use Rattle.register.specs.declared.Opened.the-variants.{Register, Refused}
 

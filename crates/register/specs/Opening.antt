@@ -1,7 +1,7 @@
 -- Opening a file: refusals 1 to 7 in their order, or the number of rows and of columns. Assumes nothing.
 use Prim.Native.Nat.{ℕ, _+_, _*_}
 use mathlib.Core.List.{List, [], _∷_}
-use mathlib.Core.Bool.{Bool, not, _||_}
+use mathlib.Core.Bool.{not, _||_}
 use lib.Dec.{ltb, eqb}
 use lib.ListN.{length}
 use Rattle.basis.specs.Places.{firstPlace}
@@ -11,7 +11,7 @@ use Rattle.register.specs.declared.Opened.the-variants.{Register, Refuse
 use Rattle.register.specs.Limits.{mostRows, mostColumns}
 use Rattle.register.specs.Layout.{bytesBefore}
 use Rattle.register.specs.File.{rowsIn, columnsIn, versionIn, directoryIn, markIn, mark, widthIn, unfitColumn}
-use Rattle.register.specs.Answers.{Shown, refusal, shownOf}
+use Rattle.register.specs.Answers.{Shown, refusal}
 
 -- the lowest unfit column
 abbrev pub firstUnfit : List ℕ → ℕ

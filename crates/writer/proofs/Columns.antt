@@ -16,10 +16,10 @@ use mathlib.Core.Bool.{false}
 use lib.Arith.{digits-lt, digits-mod}
 use lib.ListN.{length}
 use borrow.Author.Tests.{ltb-true, not-false}
-use Rattle.basis.proofs.Lists.{sum-grows}
 use Rattle.codes.specs.Width.{widest, slicesOf, tooLarge}
 use Rattle.codes.proofs.Width.{unfit-false, slices-at-most-four}
 use Rattle.register.specs.Layout.{slicesBefore, bytesBefore}
+use Rattle.register.proofs.Body.{among-all}
 use Rattle.register.proofs.Directory.{one-more-column}
 use Rattle.writer.specs.Layout.{widthOf, codeOf}
 use Rattle.writer.specs.Steps.{FitWidths, FitCodes}
@@ -46,18 +46,11 @@ one-more-counted widths fit slices column more before there same =
       few = omega (arith, before .few);
     }
 
--- a column's slices are among all
-slices-within : (width : ℕ → ℕ) (column columns : ℕ) → column < columns →
-    slicesBefore width column + slicesOf (width column) ≤ slicesBefore width columns
-unfolding slicesBefore
-slices-within width column columns there =
-    omega (arith, one-more-column width column, sum-grows (λ earlier. slicesOf (width earlier)) there)
-
 pub column-within : (rows : ℕ) (widths : List ℕ) (slices column : ℕ) → Counted widths slices column → column < length widths →
     rows * slices + rows * slicesOf (widthOf widths column) ≤ bytesBefore rows (widthOf widths) (length widths)
 column-within rows widths slices column before there =
     rw (before .counted, ← mul-add rows (slicesBefore (widthOf widths) column) (slicesOf (widthOf widths column)))
-    (mul-le-mul-left rows (slices-within (widthOf widths) column (length widths) there))
+    (mul-le-mul-left rows (among-all (widthOf widths) column (length widths) there))
 
 -- a code that is not too large
 below-limit : (width code : ℕ) → tooLarge width code ≡ false → code < 2 ^ width

@@ -1,6 +1,6 @@
 -- The one file of a register: rows, the widths of its columns, and its codes row after row. Assumes nothing.
 use Prim.Native.Nat.{ℕ, _+_, _*_}
-use mathlib.Core.List.{List, [], _∷_, _++_, map, flatten}
+use mathlib.Core.List.{List, _∷_, _++_, map, flatten}
 use lib.ListN.{length, getD}
 use Rattle.basis.specs.Lists.{below}
 use Rattle.basis.specs.Numbers.{toLittle}

@@ -1,7 +1,7 @@
 -- Writing a register: refusals 3, 4, 6, 9, 8, 10 in that order, or its file. Assumes nothing.
 use Prim.Native.Nat.{ℕ, _*_, _%_}
 use mathlib.Core.List.{List, [], _∷_}
-use mathlib.Core.Bool.{Bool, not, _||_}
+use mathlib.Core.Bool.{not, _||_}
 use lib.Dec.{ltb, eqb}
 use lib.ListN.{length, getD}
 use Rattle.basis.specs.Places.{firstPlace}

@@ -1,7 +1,7 @@
 -- `lookup::first_missing` meets its contract: every number passed is below the rows. Assumes nothing.
 use Prim.Native.Nat.{ℕ, _-_, _≤_, _<_}
 use native.Mathlib.Omega.{arith}
-use mathlib.Core.Path.{_≡_, sym, ap, _∙_}
+use mathlib.Core.Path.{_≡_, sym, _∙_}
 use mathlib.Core.Bool.{false}
 use borrow.Author.Count.{below-more}
 use borrow.Author.Needs.{needs}

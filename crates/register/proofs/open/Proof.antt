@@ -1,5 +1,5 @@
 -- `register::open` meets its contract: each test of the code is a line of the table, in its order. Assumes nothing.
-use Prim.Native.Nat.{ℕ, _+_, _-_, _*_, _≤_}
+use Prim.Native.Nat.{ℕ, _-_, _*_, _≤_}
 use native.Mathlib.Omega.{arith}
 use mathlib.Core.Path.{_≡_, sym, ap, ap₂, subst, _∙_}
 use mathlib.Core.List.{List}
@@ -13,7 +13,7 @@ use Rattle.register.specs.declared.Trailer.{Trailer}
 use Rattle.register.specs.declared.Opened.{Opened}
 use Rattle.register.specs.declared.Opened.the-variants.{Register}
 use Rattle.register.specs.Layout.{slicesBefore, bytesBefore}
-use Rattle.register.specs.File.{trailerIn, rowsIn, columnsIn, versionIn, directoryIn, markIn, mark, widthIn, unfitColumn}
+use Rattle.register.specs.File.{trailerIn, rowsIn, columnsIn, mark, widthIn, unfitColumn}
 use Rattle.register.specs.Trailer.{TrailerRead}
 use Rattle.register.specs.Answers.{refusedWith, shownOf}
 use Rattle.register.specs.Opening.{firstUnfit, openedOf, shownFor}

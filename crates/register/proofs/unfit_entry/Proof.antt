@@ -1,6 +1,5 @@
 -- `register::unfit_entry` meets its contract: width, spare bytes and offset are tried in the definition's order. Assumes nothing.
-use mathlib.Core.Path.{sym, ap, _∙_}
-use mathlib.Core.Bool.{not}
+use mathlib.Core.Path.{sym, _∙_}
 use borrow.Author.Needs.{needs}
 use borrow.Author.Tests.{eq-eqb, ne-eqb}
 use Rattle.basis.specs.Numbers.{numberAt}
