@@ -1,0 +1,16 @@
+-- The laws of a query's text and of reading it.
+pub mod Words
+pub mod Decimals
+pub mod Lines
+pub mod Places
+pub mod Numbers
+pub mod Signs
+pub mod Slots
+pub mod Formed
+pub mod ReadLines
+pub mod ReadTexts
+pub mod Replies
+pub mod SingleReply
+pub mod PrintedIsRead
+pub mod ReadIsPrinted
+pub mod Settled

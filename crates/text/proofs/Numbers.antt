@@ -1,0 +1,143 @@
+-- What each byte of a decimal says of the number that is read. Assumes nothing.
+--   end-low          the byte that must follow is no digit, nor 0
+--   Begun            some digits of a decimal that is not 0 have been read, up to a place
+--   nothing-further  none yet but those it began with
+--   further-number   a digit more, and the number that it makes, where it is below the limit
+--   number-ends      the byte that must follow ends the number
+--   too-large        a number of 2^32 or more is none, however it goes on
+--   other-byte       nor is one that another byte follows
+--   text-ends        nor one at the end of the text
+--   zero-read        0 and the byte that must follow
+--   leading-zero     0 and another byte
+--   no-digit         a byte that is no digit
+--   digits-read      a digit from 1 to 9, and what it goes on with
+use Prim.Native.Nat.{ℕ, _+_, _-_, _*_, _<_, _≤_}
+use native.Mathlib.Omega.{arith}
+use mathlib.Core.Path.{_≡_, refl, sym, ap, ap₂, subst, _∙_}
+use mathlib.Core.Logic.{⊎-elim}
+use mathlib.Core.List.{List, [], _∷_, _++_, append-assoc}
+use lib.ListN.{length, getD, drop, length-append, drop-of-length-le, List·getD-append}
+use Rattle.text.specs.declared.Number.{Number}
+use Rattle.text.specs.declared.Number.the-variants.{Value, NoNumber}
+use Rattle.text.specs.Decimals.{digit, decimal, decimalLimit}
+use Rattle.text.specs.Steps.{Ends, NumberAt, DigitsAt}
+use Rattle.text.proofs.Words.{first-of-word}
+use Rattle.text.proofs.Decimals.{
+  IsDigit,
+  decimal-of-digit,
+  decimal-one-more,
+  decimal-digits,
+  decimal-some,
+  no-leading-zero,
+  same-decimal,
+  begun-decimal,
+}
+use Rattle.text.proofs.Places.{byte-within, byte-then, byte-further}
+
+pub end-low : {end : ℕ} → Ends end → (0 < end) × (end < 48)
+end-low ends = ⊎-elim (λ is. omega arith) (λ is. omega arith) ends
+
+-- what has begun goes on, from a place on, as a number goes on
+abbrev Spells : List ℕ → ℕ → ℕ → ℕ → ℕ → Type 0
+Spells text from begun number at = decimal begun ++ drop from text ≡ decimal number ++ drop at text
+
+pub record Begun (text : List ℕ) (from begun number at : ℕ) : Type 0 where
+  pub after : from ≤ at
+  pub within : at ≤ length text
+  pub some : 0 < number
+  pub small : number < decimalLimit
+  pub spells : Spells text from begun number at
+
+pub nothing-further : (text : List ℕ) (from begun : ℕ) → from ≤ length text → 0 < begun → begun < decimalLimit →
+    Begun text from begun begun from
+nothing-further text from begun within some small =
+    record { after = omega arith; within = within; some = some; small = small; spells = refl }
+
+module _ {text : List ℕ} {from begun number at : ℕ} (so-far : Begun text from begun number at) where
+  module _ (byte : ℕ) (inside : at < length text) (is : byte ≡ getD text at 0) (d : IsDigit byte) where
+    further-digit : Spells text from begun (number * 10 + (byte - 48)) (at + 1)
+    further-digit =
+        let last : digit (byte - 48) ≡ getD text at 0 = omega arith in
+        let longer = decimal-one-more number (byte - 48) (so-far .some) (omega arith) (omega arith) in
+        so-far .spells
+        ∙ ap (λ (rest : List ℕ). decimal number ++ rest) (byte-then text at (at + 1) (digit (byte - 48)) refl inside (sym last))
+        ∙ sym (append-assoc (decimal number) (digit (byte - 48) ∷ []) (drop (at + 1) text))
+        ∙ ap (λ (word : List ℕ). word ++ drop (at + 1) text) (sym longer)
+
+    pub further-number : number * 10 + (byte - 48) < decimalLimit → Begun text from begun (number * 10 + (byte - 48)) (at + 1)
+    further-number fits =
+        record { after = omega arith; within = omega arith; some = omega arith; small = fits; spells = further-digit }
+
+    pub too-large : {end : ℕ} → Ends end → decimalLimit ≤ number * 10 + (byte - 48) → DigitsAt text from end begun NoNumber
+    too-large ends large other rest fits e =
+        let low = end-low ends in
+        let longer = begun-decimal (number * 10 + (byte - 48)) other (omega arith) (omega arith) (λ digit. omega arith)
+        (sym further-digit ∙ e) in
+        omega (arith, longer .0)
+
+  pub number-ends : (end : ℕ) → at < length text → getD text at 0 ≡ end → DigitsAt text from end begun (Value number (at + 1))
+  number-ends end inside is = (
+    so-far .small,
+    omega arith,
+    omega arith,
+    so-far .spells ∙ ap (λ (rest : List ℕ). decimal number ++ rest) (byte-then text at (at + 1) end refl inside is),
+  )
+
+  module _ {end : ℕ} (ends : Ends end) where
+    pub other-byte : at < length text → (IsDigit (getD text at 0) → ⊥) → (getD text at 0 ≡ end → ⊥) →
+        DigitsAt text from end begun NoNumber
+    other-byte inside none differs other rest fits e =
+        let low = end-low ends in
+        let stands = byte-then text at (at + 1) (getD text at 0) refl inside refl in
+        let word = same-decimal number other (omega arith) (omega arith) (λ digit. omega arith) none
+        (ap (λ (left : List ℕ). decimal number ++ left) (sym stands) ∙ sym (so-far .spells) ∙ e) in
+        differs (word .1)
+
+    pub text-ends : length text ≤ at → DigitsAt text from end begun NoNumber
+    text-ends past other rest fits e =
+        let low = end-low ends in
+        let longer = begun-decimal number other (omega arith) (omega arith) (λ digit. omega arith) (sym (so-far .spells) ∙ e) in
+        let none = simp length-append at (ap length (sym (drop-of-length-le text past) ∙ longer .2)) in
+        omega (arith, none)
+
+module _ (text : List ℕ) (at end : ℕ) where
+  -- the byte with which a decimal at the place begins
+  begins-with : (number : ℕ) (rest : List ℕ) → number < decimalLimit → drop at text ≡ decimal number ++ (end ∷ rest) →
+      getD text at 0 ≡ getD (decimal number) 0 0
+  begins-with number rest small e =
+      byte-further text at 0 at (omega arith) e
+      ∙ List·getD-append (decimal number) (end ∷ rest) 0 0 (decimal-some number (omega arith))
+
+  pub zero-read : Ends end → getD text at 0 ≡ 48 → getD text (at + 1) 0 ≡ end → NumberAt text at end (Value 0 (at + 2))
+  zero-read may is ends =
+      let within = byte-within text at 48 is (omega arith) in
+      let behind = byte-within text (at + 1) end ends (end-low may .0) in (
+        omega arith,
+        omega arith,
+        omega arith,
+        byte-then text at (at + 1) 48 refl within is
+            ∙ ap₂ _++_ (sym (decimal-of-digit 0 (omega arith))) (byte-then text (at + 1) (at + 2) end (omega arith) behind ends),
+      )
+
+  pub leading-zero : getD text at 0 ≡ 48 → (getD text (at + 1) 0 ≡ end → ⊥) → NumberAt text at end NoNumber
+  leading-zero is differs number rest small e =
+      let none = no-leading-zero number (omega arith) (sym (begins-with number rest small e) ∙ is) in
+      let zero-first =
+      e ∙ ap (λ (word : List ℕ). word ++ (end ∷ rest)) (ap decimal none ∙ decimal-of-digit 0 (omega arith)) in
+      differs (byte-further text at 1 (at + 1) refl zero-first)
+
+  pub no-digit : (IsDigit (getD text at 0) → ⊥) → NumberAt text at end NoNumber
+  no-digit none number rest small e =
+      none
+      (subst IsDigit (sym (begins-with number rest small e))
+      (first-of-word IsDigit (decimal number) (decimal-digits number (omega arith)) (decimal-some number (omega arith))))
+
+  module _ (begun : ℕ) (some : 0 < begun) (small : begun < 10) (is : getD text at 0 ≡ digit begun) where
+    begun-here : decimal begun ++ drop (at + 1) text ≡ drop at text
+    begun-here =
+        ap (λ (word : List ℕ). word ++ drop (at + 1) text) (decimal-of-digit begun small)
+        ∙ sym (byte-then text at (at + 1) (digit begun) refl (byte-within text at (digit begun) is (omega arith)) is)
+
+    pub digits-read : (read : Number) → DigitsAt text (at + 1) end begun read → NumberAt text at end read
+    digits-read (Value number next) digits = (digits .0, omega arith, digits .2, sym begun-here ∙ digits .3)
+    digits-read NoNumber digits = λ number rest fits e. digits number rest fits (begun-here ∙ e)

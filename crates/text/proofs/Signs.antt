@@ -1,0 +1,89 @@
+-- What the bytes at a place say of the sign that stands there. Assumes nothing.
+--   NotSigned        the bytes at a place, and at the two after it, are those of no sign and its space
+--   no-sign          where they are so, no sign stands there
+--   short-sign       a sign of one byte, and a space
+--   long-sign        a sign of two bytes, and a space
+--   sign-if-spaced   a sign whose bytes stand there, if a space follows
+use Prim.Native.Nat.{ℕ, _+_, _<_}
+use native.Mathlib.Omega.{arith}
+use mathlib.Core.Path.{_≡_, refl, sym, ap, subst, _∙_}
+use mathlib.Core.Logic.{⊎-elim}
+use mathlib.Core.Bool.{true, false}
+use mathlib.Core.List.{List, [], _∷_, _++_}
+use lib.Dec.{eqb}
+use lib.ListN.{getD}
+use borrow.Author.Tests.{eqb-true, eqb-false}
+use Rattle.basis.proofs.Truth.{either, hit, missed}
+use Rattle.query.specs.declared.Comparison.{Comparison}
+use Rattle.query.specs.declared.Comparison.the-variants.{Less, AtMost, More, AtLeast, Equal, Differs}
+use Rattle.text.specs.declared.Sign.{Sign}
+use Rattle.text.specs.declared.Sign.the-variants.{Compares, NoSign}
+use Rattle.text.specs.Lines.{space, signOf}
+use Rattle.text.specs.Steps.{SignAt, spacedAt}
+use Rattle.text.proofs.Places.{byte-within, byte-then, byte-further}
+
+pub record NotSigned (first second third : ℕ) : Type 0 where
+  pub less : first ≡ 60 → second ≡ 32 → ⊥
+  pub at-most : first ≡ 60 → second ≡ 61 → third ≡ 32 → ⊥
+  pub more : first ≡ 62 → second ≡ 32 → ⊥
+  pub at-least : first ≡ 62 → second ≡ 61 → third ≡ 32 → ⊥
+  pub equal : first ≡ 61 → second ≡ 32 → ⊥
+  pub differs : first ≡ 33 → second ≡ 61 → third ≡ 32 → ⊥
+
+module _ (text : List ℕ) (at : ℕ) where
+  pub no-sign : NotSigned (getD text at 0) (getD text (at + 1) 0) (getD text (at + 2) 0) → SignAt text at NoSign
+  no-sign none comparison rest e =
+      refuted comparison
+      (byte-further text at 0 at (omega arith) e)
+      (byte-further text at 1 (at + 1) refl e)
+      (byte-further text at 2 (at + 2) refl e)
+    where
+      refuted : (sign : Comparison) → getD text at 0 ≡ getD (signOf sign ++ (space ∷ rest)) 0 0 →
+          getD text (at + 1) 0 ≡ getD (signOf sign ++ (space ∷ rest)) 1 0 →
+          getD text (at + 2) 0 ≡ getD (signOf sign ++ (space ∷ rest)) 2 0 → ⊥
+      refuted (Less _) b c d = none .less b c
+      refuted (AtMost _) b c d = none .at-most b c d
+      refuted (More _) b c d = none .more b c
+      refuted (AtLeast _) b c d = none .at-least b c d
+      refuted (Equal _) b c d = none .equal b c
+      refuted (Differs _) b c d = none .differs b c d
+
+  module _ (comparison : Comparison) (first : ℕ) (some : 0 < first) (is : getD text at 0 ≡ first) where
+    pub short-sign : (next : ℕ) → signOf comparison ≡ first ∷ [] → next ≡ at + 2 → getD text (at + 1) 0 ≡ space →
+        SignAt text at (Compares comparison next)
+    short-sign next sign follows spaced =
+        let here = byte-within text at first is some in
+        let behind = byte-within text (at + 1) space spaced (omega arith) in (
+          omega arith,
+          omega arith,
+          byte-then text at (at + 1) first refl here is
+              ∙ rw sign (ap (λ (rest : List ℕ). first ∷ rest) (byte-then text (at + 1) next space (omega arith) behind spaced)),
+        )
+
+    pub long-sign : (next : ℕ) → signOf comparison ≡ first ∷ (61 ∷ []) → next ≡ at + 3 → getD text (at + 1) 0 ≡ 61 →
+        getD text (at + 2) 0 ≡ space → SignAt text at (Compares comparison next)
+    long-sign next sign follows second spaced =
+        let here = byte-within text at first is some in
+        let middle = byte-within text (at + 1) 61 second (omega arith) in
+        let behind = byte-within text (at + 2) space spaced (omega arith) in (
+          omega arith,
+          omega arith,
+          byte-then text at (at + 1) first refl here is
+              ∙ rw sign
+              (ap (λ (rest : List ℕ). first ∷ rest)
+              (byte-then text (at + 1) (at + 2) 61 (omega arith) middle second
+              ∙ ap (λ (rest : List ℕ). 61 ∷ rest) (byte-then text (at + 2) next space (omega arith) behind spaced))),
+        )
+
+  pub sign-if-spaced : (next : ℕ) (comparison : Comparison) {sign : Sign} → sign ≡ spacedAt text next comparison →
+      (getD text next 0 ≡ space → SignAt text at (Compares comparison (next + 1))) →
+      ((getD text next 0 ≡ space → ⊥) → SignAt text at NoSign) → SignAt text at sign
+  sign-if-spaced next comparison said there missing =
+      let byte = getD text next 0 in
+      let spaced = Compares comparison (next + 1) in
+      ⊎-elim
+      (λ (here : eqb byte space ≡ true).
+      subst (SignAt text at) (sym (said ∙ hit (eqb byte space) spaced NoSign here)) (there (eqb-true byte space here)))
+      (λ (other : eqb byte space ≡ false).
+      subst (SignAt text at) (sym (said ∙ missed (eqb byte space) spaced NoSign other)) (missing (eqb-false byte space other)))
+      (either (eqb byte space))

@@ -1,0 +1,23 @@
+-- The promise of reading admits one reply: two replies to one text are the same. Assumes nothing.
+use Prim.Native.Nat.{ℕ}
+use mathlib.Core.Path.{_≡_, sym, subst, _∙_}
+use mathlib.Core.List.{List, _++_}
+use Rattle.query.specs.declared.Test.{Test}
+use Rattle.text.specs.declared.Asked.{Asked}
+use Rattle.text.specs.Lines.{textOf}
+use Rattle.text.specs.Reading.{BeginsSegment, Formed, Reads}
+use Rattle.text.proofs.Replies.{same-lines, begins-with-segment, replyTo, Taken, taken}
+
+pub single-reply : {text : List ℕ} {first second : Asked} → Reads text first → Reads text second → first ≡ second
+single-reply {text} {first} {second} one other = agree (taken one) (taken other)
+  where
+    begins : (size : ℕ) (tests : List Test) (rest : List ℕ) → Formed size tests → text ≡ textOf size tests ++ rest → BeginsSegment text
+    begins size tests rest formed e = subst BeginsSegment (sym e) (begins-with-segment size tests rest formed)
+
+    agree : Taken text first → Taken text second → first ≡ second
+    agree (Taken.no-line-0 none is) (Taken.no-line-0 never was) = is ∙ sym was
+    agree (Taken.no-line-0 none is) (Taken.lines size tests rest formed ends e was) = absurd (none (begins size tests rest formed e))
+    agree (Taken.lines size tests rest formed ends e is) (Taken.no-line-0 none was) = absurd (none (begins size tests rest formed e))
+    agree (Taken.lines size tests rest formed ends e is) (Taken.lines other others left small stops d was) =
+        let same = same-lines size other tests others formed small ends stops (sym e ∙ d) in
+        is ∙ (λ i. replyTo (same .0 i) (same .1 i) (same .2 i)) ∙ sym was

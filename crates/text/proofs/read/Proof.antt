@@ -1,0 +1,164 @@
+-- `text::read` meets its contract: at each turn the text up to the place is that of the size and the tests so far. Assumes
+-- nothing.
+use Prim.Native.Nat.{ℕ, _-_}
+use native.Mathlib.Omega.{arith}
+use mathlib.Core.Path.{_≡_, sym, subst}
+use mathlib.Core.Logic.{⊎-elim}
+use mathlib.Core.List.{List}
+use borrow.Author.Needs.{needs}
+use lib.ListN.{length}
+use Rattle.text.specs.declared.Asked.{Asked}
+use Rattle.text.specs.declared.Number.{Number}
+use Rattle.text.specs.declared.Line.the-variants.{Asks}
+use Rattle.text.specs.Reading.{Reads}
+use Rattle.text.specs.Steps.{SegmentAt, LineAt}
+use Rattle.text.proofs.ReadTexts.{ReadUpTo, first-line, kept-line, counted-line, malformed-line, whole-text, too-many-lines}
+use Rattle.text.proofs.read.Statement.{statement}
+use Rattle.text.proofs.read.Tie as tie
+
+abbrev Inv-loop : tie.InvT-loop
+Inv-loop text tests₀ size after at₀ count₀ tests at count = ReadUpTo text size at count tests
+
+abbrev μ-loop : tie.MeasureT-loop
+μ-loop text tests₀ size after at₀ count₀ tests at count = length text - at
+
+-- the text
+abbrev textAt : tie.After-read-segment Inv-loop μ-loop → List ℕ
+textAt c = c .before .before .before .args .text .now
+
+abbrev startOf : tie.At-loop Inv-loop μ-loop → tie.Start Inv-loop μ-loop
+startOf c = c .before .before .before .before .before .before .before
+
+abbrev textIn : tie.At-loop Inv-loop μ-loop → List ℕ
+textIn c = textAt (c .before .before .before .before)
+
+-- a reply that is the one due
+answered : {text : List ℕ} {reply due : Asked} → reply ≡ due → Reads text due → Reads text reply
+answered {text} is reads = subst (Reads text) (sym is) reads
+
+-- line 0 as it was read
+segment-here : (c : tie.After-read-segment Inv-loop μ-loop) {told : Number} → c .read-segment .result ≡ told → SegmentAt (textAt c) told
+segment-here c is = subst (SegmentAt (textAt c)) is (c .read-segment .ensures)
+
+-- the line that was read
+line-here : (c : tie.After-line Inv-loop μ-loop) →
+    LineAt (textIn (c .before .before .before .before)) (c .before .before .before .before .loop .at)
+    (Asks (c .line .given .0 .0) (c .line .given .0 .1 .0))
+line-here c =
+    let turn = c .before .before .before .before in
+    subst (LineAt (textIn turn) (turn .loop .at)) (c .line .given .1) (c .before .before .read-line .ensures)
+
+empty-slot-requires : tie.Need-empty-slot-requires Inv-loop μ-loop
+empty-slot-requires c κs = search needs
+
+read-segment-requires : tie.Need-read-segment-requires Inv-loop μ-loop
+read-segment-requires c κs = search needs
+
+enum-known-first : tie.Need-enum-known-first Inv-loop μ-loop
+enum-known-first c = search needs
+
+enum-told : tie.Need-enum-told Inv-loop μ-loop
+enum-told c = search needs
+
+refused-requires : tie.Need-refused-requires Inv-loop μ-loop
+refused-requires c κs = search needs
+
+returns : tie.Need-returns Inv-loop μ-loop
+returns c =
+    let read = c .before .before .before in
+    answered (c .refused .ensures) (Reads.no-segment (textAt read) (segment-here read (c .before .enum-told .given .1)))
+
+loop-holds : tie.Need-loop-holds Inv-loop μ-loop
+loop-holds c =
+    let read = c .before .before .before in
+    first-line (textAt read) _ (segment-here read (c .before .first .given .1)) (rw (read .before .empty-slot .ensures))
+
+read-line-requires : tie.Need-read-line-requires Inv-loop μ-loop
+read-line-requires c κs = c .before .loop .inv .within
+
+enum-known-line : tie.Need-enum-known-line Inv-loop μ-loop
+enum-known-line c = search needs
+
+enum-told-2 : tie.Need-enum-told-2 Inv-loop μ-loop
+enum-told-2 c = search needs
+
+add-refused : tie.Need-add-refused Inv-loop μ-loop
+add-refused c = omega arith
+
+refused-requires-2 : tie.Need-refused-requires-2 Inv-loop μ-loop
+refused-requires-2 c κs = search needs
+
+returns-2 : tie.Need-returns-2 Inv-loop μ-loop
+returns-2 c =
+    let line = c .before .before .before in
+    let turn = line .before .before in
+    answered (c .refused2 .ensures)
+    (malformed-line (turn .loop .inv) (line .before .loop-test .taken)
+    (subst (LineAt (textIn turn) (turn .loop .at)) (c .before .enum-told2 .given .1) (line .read-line .ensures)))
+
+mul-tests : tie.Need-mul-tests Inv-loop μ-loop
+mul-tests c = omega arith
+
+array-set-from-tests : tie.Need-array-set-from-tests Inv-loop μ-loop
+array-set-from-tests c = omega arith
+
+add-count : tie.Need-add-count Inv-loop μ-loop
+add-count c =
+    let turn = c .before .before .before .before .before .before in
+    omega (arith, turn .loop .inv .few, turn .loop .inv .within, startOf turn .good)
+
+loop-less : tie.Need-loop-less Inv-loop μ-loop
+loop-less c =
+    let line = line-here (c .before .before) in
+    omega (arith, line .1, line .2)
+
+loop-again : tie.Need-loop-again Inv-loop μ-loop
+loop-again c =
+    let line = c .before .before in
+    let turn = line .before .before .before .before in
+    ⊎-elim
+    (λ w. subst (ReadUpTo _ _ _ _) (sym (w .1)) (kept-line (turn .loop .inv) (line .line .given .0 .0) (line-here line) (omega arith)))
+    (λ w. subst (ReadUpTo _ _ _ _) (sym (w .1)) (counted-line (turn .loop .inv) (line .line .given .0 .0) (line-here line) (omega arith)))
+    (c .if1 .came)
+
+refused-requires-3 : tie.Need-refused-requires-3 Inv-loop μ-loop
+refused-requires-3 c κs = search needs
+
+returns-3 : tie.Need-returns-3 Inv-loop μ-loop
+returns-3 c =
+    let turn = c .before .before .before in
+    answered (c .refused3 .ensures)
+    (too-many-lines (turn .loop .inv) (c .before .before .loop-test .left) (omega arith))
+
+returns-4 : tie.Need-returns-4 Inv-loop μ-loop
+returns-4 c =
+    let turn = c .before .before in
+    whole-text (turn .loop .inv) (c .before .loop-test .left) (omega arith)
+
+pub read-spec : {M : Type 1} → statement M
+read-spec =
+    tie.close
+    (tie.spec
+    Inv-loop
+    μ-loop
+    empty-slot-requires
+    read-segment-requires
+    enum-known-first
+    enum-told
+    refused-requires
+    returns
+    loop-holds
+    read-line-requires
+    enum-known-line
+    enum-told-2
+    add-refused
+    refused-requires-2
+    returns-2
+    mul-tests
+    array-set-from-tests
+    add-count
+    loop-less
+    loop-again
+    refused-requires-3
+    returns-3
+    returns-4)

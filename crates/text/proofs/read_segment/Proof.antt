@@ -1,0 +1,76 @@
+-- `text::read_segment` meets its contract: byte by byte the word, and then a decimal. Assumes nothing.
+use Prim.Native.Nat.{ℕ, _-_, _<_, _≤_}
+use native.Mathlib.Omega.{arith}
+use mathlib.Core.Path.{_≡_, refl, sym, _∙_}
+use mathlib.Core.List.{List, _++_}
+use mathlib.Core.Logic.{inl}
+use borrow.Author.Needs.{needs}
+use borrow.Author.Count.{below-none, below-more}
+use lib.ListN.{length, getD, drop}
+use Rattle.text.specs.Lines.{segmentWord}
+use Rattle.text.proofs.ReadLines.{word-read, word-missing, segment-read}
+use Rattle.text.proofs.read_segment.Statement.{statement}
+use Rattle.text.proofs.read_segment.Tie as tie
+
+abbrev Inv-loop : tie.InvT-loop
+Inv-loop text word i₀ i = (i ≤ 8) × ((k : ℕ) → k < i → getD text k 0 ≡ getD segmentWord k 0)
+
+abbrev μ-loop : tie.MeasureT-loop
+μ-loop text word i₀ i = 8 - i
+
+abbrev textAt : tie.After-loop Inv-loop μ-loop → List ℕ
+textAt c = c .before .before .before .before .args .text .now
+
+-- past the loop the word stands at the front
+read-here : (c : tie.After-loop Inv-loop μ-loop) → (8 ≤ length (textAt c)) × (textAt c ≡ segmentWord ++ drop 8 (textAt c))
+read-here c =
+    let turn = c .before in
+    word-read (textAt c) (λ k within. turn .loop .inv .1 k (omega arith))
+
+loop-holds : tie.Need-loop-holds Inv-loop μ-loop
+loop-holds c = (omega arith, below-none _)
+
+byte-at-requires : tie.Need-byte-at-requires Inv-loop μ-loop
+byte-at-requires c κs = search needs
+
+element-copy-out-if1 : tie.Need-element-copy-out-if1 Inv-loop μ-loop
+element-copy-out-if1 c = omega arith
+
+returns : tie.Need-returns Inv-loop μ-loop
+returns c =
+    let turn = c .before .before .before .before in
+    word-missing _ (turn .loop .i) (c .before .before .before .loop-test .taken)
+    (λ e. c .if1 .taken (c .before .before .byte-at .ensures ∙ e))
+
+add-i : tie.Need-add-i Inv-loop μ-loop
+add-i c = omega arith
+
+loop-less : tie.Need-loop-less Inv-loop μ-loop
+loop-less c = omega arith
+
+loop-again : tie.Need-loop-again Inv-loop μ-loop
+loop-again c =
+    let turn = c .before .before .before .before in
+    (omega arith, below-more _ (turn .loop .i) (turn .loop .inv .1) (sym (c .before .before .byte-at .ensures) ∙ c .if1 .left))
+
+read-number-requires : tie.Need-read-number-requires Inv-loop μ-loop
+read-number-requires c κs = (read-here c .0, inl refl)
+
+returns-2 : tie.Need-returns-2 Inv-loop μ-loop
+returns-2 c = segment-read _ (read-here (c .before) .1) (c .read-number .result) (c .read-number .ensures)
+
+pub read-segment-spec : {M : Type 1} → statement M
+read-segment-spec =
+    tie.close
+    (tie.spec
+    Inv-loop
+    μ-loop
+    loop-holds
+    byte-at-requires
+    element-copy-out-if1
+    returns
+    add-i
+    loop-less
+    loop-again
+    read-number-requires
+    returns-2)
