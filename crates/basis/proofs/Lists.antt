@@ -11,13 +11,21 @@
 --   sum-scaled        a common factor comes out of a sum
 --   joined-one-more   what is joined of each number below n + 1 ends with n's
 --   length-flatten       lists joined are as long as all of them together
+--   any-one-more      a test of some number below n + 1 ends with n
+--   mapped-same       what is made alike of each number below n is the same list
+--   mapped-onwards    what is made of the numbers from a first on, told from 0 on
+--   sum-continues     the sum over the numbers below n, and over those that follow
+--   sum-onwards       a sum over the numbers from a first on, told from 0 on
+--   at-is-member      what stands at a place of a list is a member of it
+--   mapped-in-place   what stands at a place of a list made from another
 use Prim.Native.Nat.{ℕ, zero, suc, _+_, _*_, _≤_, _<_}
 use native.Mathlib.Omega.{arith}
-use native.Mathlib.Nat.{add-zero, mul-zero, mul-suc, mul-add, le-dest}
-use mathlib.Core.Path.{_≡_, refl, sym, ap, _∙_}
-use mathlib.Core.List.{List, [], _∷_, _++_, map, map-append, append-nil, append-assoc, flatten}
+use native.Mathlib.Nat.{add-zero, add-suc, mul-zero, mul-suc, mul-add, le-dest}
+use mathlib.Core.Path.{_≡_, refl, sym, ap, ap₂, _∙_}
+use mathlib.Core.List.{List, [], _∷_, _++_, map, map-append, append-nil, append-assoc, flatten, List·Memᴰ, List·Memᴰ·head, List·Memᴰ·tail}
+use mathlib.Core.Bool.{Bool, _||_, or-assoc, or-false}
 use lib.ListN.{length, getD, length-append}
-use Rattle.basis.specs.Lists.{sum, run, below}
+use Rattle.basis.specs.Lists.{any, sum, run, below}
 
 pub length-run : (first many : ℕ) → length (run first many) ≡ many
 length-run first zero = refl
@@ -93,3 +101,51 @@ length-flatten list long each zero = refl
 length-flatten list long each (suc n) =
     ap length (joined-one-more list n)
     ∙ rw (length-append, each n, length-flatten list long each n) (sym (sum-one-more long n))
+
+any-append : {A : Type 0} (test : A → Bool) (xs ys : List A) → any test (xs ++ ys) ≡ (any test xs || any test ys)
+any-append test [] ys = refl
+any-append test (x ∷ xs) ys =
+    ap (λ (rest : Bool). test x || rest) (any-append test xs ys) ∙ sym (or-assoc (test x) (any test xs) (any test ys))
+
+pub any-one-more : (test : ℕ → Bool) (n : ℕ) → any test (below (suc n)) ≡ (any test (below n) || test n)
+any-one-more test n =
+    ap (any test) (below-one-more n)
+    ∙ any-append test (below n) (n ∷ [])
+    ∙ ap (λ (last : Bool). any test (below n) || last) (or-false (test n))
+
+pub mapped-same : {B : Type 0} (f g : ℕ → B) (n : ℕ) → ((i : ℕ) → i < n → f i ≡ g i) → map f (below n) ≡ map g (below n)
+mapped-same f g zero each = refl
+mapped-same f g (suc n) each =
+    map-one-more f n
+    ∙ ap₂ (λ list x. list ++ (x ∷ [])) (mapped-same f g n (λ i h. each i (omega arith))) (each n (omega arith))
+    ∙ sym (map-one-more g n)
+
+pub mapped-onwards : {B : Type 0} (f : ℕ → B) (first many : ℕ) → map f (run first many) ≡ map (λ i. f (first + i)) (below many)
+mapped-onwards f first zero = refl
+mapped-onwards f first (suc many) =
+    ap (map f) (run-one-more first many)
+    ∙ map-append f (run first many) ((first + many) ∷ [])
+    ∙ ap (λ list. list ++ (f (first + many) ∷ [])) (mapped-onwards f first many)
+    ∙ sym (map-one-more (λ i. f (first + i)) many)
+
+pub sum-continues : (f : ℕ → ℕ) (n more : ℕ) → sum f (below (n + more)) ≡ sum f (below n) + sum (λ i. f (n + i)) (below more)
+sum-continues f n zero = rw add-zero (omega arith)
+sum-continues f n (suc more) =
+    rw (add-suc n more, sum-one-more f (n + more), sum-one-more (λ i. f (n + i)) more, sum-continues f n more) (omega arith)
+
+pub sum-onwards : (f : ℕ → ℕ) (first many : ℕ) → sum f (run first many) ≡ sum (λ i. f (first + i)) (below many)
+sum-onwards f first zero = refl
+sum-onwards f first (suc many) =
+    sum-run f first many
+    ∙ rw (sum-onwards f first many, ← sum-one-more (λ i. f (first + i)) many)
+
+pub at-is-member : {A : Type 0} (list : List A) (i : ℕ) (none : A) → i < length list → List·Memᴰ (getD list i none) list
+at-is-member [] i none h = absurd (omega arith)
+at-is-member (x ∷ list) zero none h = List·Memᴰ·head refl
+at-is-member (x ∷ list) (suc i) none h = List·Memᴰ·tail (at-is-member list i none (omega arith))
+
+pub mapped-in-place : {A B : Type 0} (f : A → B) (list : List A) (i : ℕ) (none : A) (d : B) → i < length list →
+    getD (map f list) i d ≡ f (getD list i none)
+mapped-in-place f [] i none d h = absurd (omega arith)
+mapped-in-place f (x ∷ list) zero none d h = refl
+mapped-in-place f (x ∷ list) (suc i) none d h = mapped-in-place f list i none d (omega arith)

@@ -6,20 +6,24 @@
 --   any-makes                 what makes each member pass a second test makes some member pass it
 --   sum-each-at-most          terms no greater, no greater a sum
 --   sum-each-same             the same terms, the same sum
---   all-each-same             the same tests, the same outcome for all
+--   all-each-same, any-each-same    the same tests, the same outcome for all, and for some
+--   none-passes               all fail exactly when not some pass
+--   any-mapped, all-mapped    a test of a mapped list's members, as one of the members before
+--   sum-term                  a term is no greater than the sum
+--   sum-gives                 a sum that is not 0 has a term that is not 0
 --   sum-times                 a common factor of the terms is one of the sum
 --   sum-of-ones               1 for each member sums up to the length
 --   sum-mapped, sum-joined    the sum over a mapped list, and over lists joined
 --   reordered-within          a reordering keeps every member
 --   sum-reordered             and the sum
-use Prim.Native.Nat.{ℕ, _+_, _*_, _≤_}
+use Prim.Native.Nat.{ℕ, zero, suc, _+_, _*_, _≤_, _<_}
 use native.Mathlib.Omega.{arith}
 use native.Mathlib.Nat.{add-le-add, add-mul}
 use mathlib.Core.Path.{_≡_, refl, ap, ap₂, _∙_}
 use mathlib.Core.Logic.{_⊎_, inl, inr}
 use mathlib.Core.List.{List, [], _∷_, _++_, map, flatten, List·Memᴰ, List·Memᴰ·head, List·Memᴰ·tail, List·Memᴰ·cases-cons}
 use mathlib.Core.List.{List·Permᴰ, List·Permᴰ·nil, List·Permᴰ·cons, List·Permᴰ·swap, List·Permᴰ·trans}
-use mathlib.Core.Bool.{Bool, _&&_}
+use mathlib.Core.Bool.{Bool, true, false, not, _&&_, _||_}
 use lib.Dec.{T}
 use lib.ListN.{length}
 use Rattle.basis.specs.Lists.{any, all, sum}
@@ -88,6 +92,40 @@ pub all-each-same : {A : Type 0} (test other : A → Bool) (xs : List A) → ((x
 all-each-same test other [] each = refl
 all-each-same test other (x ∷ xs) each =
     ap₂ _&&_ (each x (List·Memᴰ·head refl)) (all-each-same test other xs (λ y m. each y (List·Memᴰ·tail m)))
+
+pub any-each-same : {A : Type 0} (test other : A → Bool) (xs : List A) → ((x : A) → x ∈ xs → test x ≡ other x) →
+    any test xs ≡ any other xs
+any-each-same test other [] each = refl
+any-each-same test other (x ∷ xs) each =
+    ap₂ _||_ (each x (List·Memᴰ·head refl)) (any-each-same test other xs (λ y m. each y (List·Memᴰ·tail m)))
+
+not-either : (a b : Bool) → (not a && not b) ≡ not (a || b)
+not-either true b = refl
+not-either false b = refl
+
+pub none-passes : {A : Type 0} (test : A → Bool) (xs : List A) → all (λ x. not (test x)) xs ≡ not (any test xs)
+none-passes test [] = refl
+none-passes test (x ∷ xs) = ap (λ (rest : Bool). not (test x) && rest) (none-passes test xs) ∙ not-either (test x) (any test xs)
+
+pub any-mapped : {A B : Type 0} (test : B → Bool) (g : A → B) (xs : List A) → any test (map g xs) ≡ any (λ x. test (g x)) xs
+any-mapped test g [] = refl
+any-mapped test g (x ∷ xs) = ap (λ (rest : Bool). test (g x) || rest) (any-mapped test g xs)
+
+pub all-mapped : {A B : Type 0} (test : B → Bool) (g : A → B) (xs : List A) → all test (map g xs) ≡ all (λ x. test (g x)) xs
+all-mapped test g [] = refl
+all-mapped test g (x ∷ xs) = ap (λ (rest : Bool). test (g x) && rest) (all-mapped test g xs)
+
+pub sum-term : {A : Type 0} (f : A → ℕ) {x : A} {xs : List A} → x ∈ xs → f x ≤ sum f xs
+sum-term f (List·Memᴰ·head {x = y} {xs = ys} e) = rw e (omega arith)
+sum-term f (List·Memᴰ·tail {x = y} {xs = ys} m) = omega (arith, sum-term f m)
+
+pub sum-gives : {A : Type 0} (f : A → ℕ) (xs : List A) → 0 < sum f xs → (x : A) × (x ∈ xs) × (0 < f x)
+sum-gives f [] some = absurd (omega arith)
+sum-gives {A} f (x ∷ xs) some = go (f x) refl (sum-gives f xs)
+  where
+    go : (first : ℕ) → f x ≡ first → (0 < sum f xs → (y : A) × (y ∈ xs) × (0 < f y)) → (y : A) × (y ∈ (x ∷ xs)) × (0 < f y)
+    go zero e rest = let later = rest (omega arith) in (later .0, List·Memᴰ·tail (later .1), later .2)
+    go (suc n) e rest = (x, List·Memᴰ·head refl, omega arith)
 
 pub sum-times : {A : Type 0} (f : A → ℕ) (n : ℕ) (xs : List A) → sum (λ x. f x * n) xs ≡ sum f xs * n
 sum-times f n [] = omega arith

@@ -7,17 +7,19 @@
 --   run-cut              so are the two parts of a run that may end in the first
 --   sum-ends             a sum ends where its terms do
 --   mapped-at            what stands at a place of a list made from the numbers below a bound
+--   taken-by-number      the first elements of a list, by their places
 use Prim.Native.Nat.{ℕ, zero, suc, _+_, _-_, _≤_, _<_, min}
 use native.Mathlib.Omega.{arith}
 use native.Mathlib.Nat.{add-zero, add-suc, zero-add, le-dest, eq-or-lt-of-le}
 use mathlib.Core.Path.{_≡_, refl, sym, ap, _∙_}
 use mathlib.Core.Logic.{_⊎_, inl, inr}
-use mathlib.Core.List.{_∷_, _++_, map, append-nil, List·Memᴰ·head, List·Memᴰ·tail, List·Memᴰ·cases-cons, List·Memᴰ·not-nil}
+use mathlib.Core.List.{List, [], _∷_, _++_, map, append-nil, List·Memᴰ·head, List·Memᴰ·tail, List·Memᴰ·cases-cons, List·Memᴰ·not-nil}
 use mathlib.Core.Bool.{not}
 use lib.Dec.{T, ltb, ltb→lt, nltb→le}
-use lib.ListN.{getD}
+use lib.ListN.{length, getD, take}
+use lib.Seq.{take-suc}
 use Rattle.basis.specs.Lists.{sum, run, below}
-use Rattle.basis.proofs.Lists.{sum-one-more}
+use Rattle.basis.proofs.Lists.{sum-one-more, map-one-more}
 use Rattle.basis.proofs.Passing.{passed-or-failed}
 use Rattle.basis.proofs.Members.{_∈_}
 
@@ -93,3 +95,10 @@ mapped-run-at f first (suc many) (suc i) d h =
 
 pub mapped-at : {A : Type 0} (f : ℕ → A) (many i : ℕ) (d : A) → i < many → getD (map f (below many)) i d ≡ f i
 mapped-at f many i d h = mapped-run-at f 0 many i d h ∙ ap f (zero-add i)
+
+pub taken-by-number : {A : Type 0} (xs : List A) (n : ℕ) (d : A) → n ≤ length xs → take n xs ≡ map (λ i. getD xs i d) (below n)
+taken-by-number xs zero d h = refl
+taken-by-number {A} xs (suc n) d h =
+    take-suc xs n d h
+    ∙ ap (λ (front : List A). front ++ (getD xs n d ∷ [])) (taken-by-number xs n d (omega arith))
+    ∙ sym (map-one-more (λ i. getD xs i d) n)

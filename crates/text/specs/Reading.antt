@@ -3,9 +3,7 @@ use Prim.Native.Nat.{ℕ, _+_, _<_, _≤_}
 use mathlib.Core.Path.{_≡_}
 use mathlib.Core.List.{List, [], _++_, List·Memᴰ}
 use lib.ListN.{length, take, replicate}
-use Rattle.register.specs.declared.Refusal.{Refusal}
 use Rattle.query.specs.declared.Test.{Test}
-use Rattle.query.specs.declared.Query.{Query}
 use Rattle.query.specs.Tests.{mostTests, emptySlot}
 use Rattle.text.specs.declared.Asked.{Asked}
 use Rattle.text.specs.Decimals.{decimalLimit}

@@ -1,0 +1,80 @@
+-- `scan::add_counts` meets its contract: the counts passed are sums, and those ahead are as they were. Assumes nothing.
+use Prim.Native.Nat.{_+_, _-_, _≤_}
+use native.Mathlib.Omega.{arith}
+use mathlib.Core.Path.{_≡_}
+use lib.ListN.{getD}
+use Rattle.scan.specs.Steps.{Swept}
+use Rattle.scan.proofs.FrontSweeps.{swept-next}
+use Rattle.scan.proofs.Sweeps.{swept-nothing}
+use Rattle.scan.proofs.add_counts.Statement.{statement}
+use Rattle.scan.proofs.add_counts.Tie as tie
+
+abbrev Inv-loop : tie.InvT-loop
+Inv-loop counts₀ read t₀ counts t = (t ≤ 16) × Swept counts₀ counts 0 t (λ k. getD counts₀ k 0 + getD read k 0)
+
+abbrev μ-loop : tie.MeasureT-loop
+μ-loop counts₀ read t₀ counts t = 16 - t
+
+loop-holds : tie.Need-loop-holds Inv-loop μ-loop
+loop-holds c = (omega arith, swept-nothing _ 0 _)
+
+mul-counts : tie.Need-mul-counts Inv-loop μ-loop
+mul-counts c = omega arith
+
+element-copy-out-counts : tie.Need-element-copy-out-counts Inv-loop μ-loop
+element-copy-out-counts c = omega arith
+
+mul-counts-2 : tie.Need-mul-counts-2 Inv-loop μ-loop
+mul-counts-2 c = omega arith
+
+element-copy-out-counts-2 : tie.Need-element-copy-out-counts-2 Inv-loop μ-loop
+element-copy-out-counts-2 c = omega arith
+
+add-counts : tie.Need-add-counts Inv-loop μ-loop
+add-counts c =
+    let turn = c .before .before .before .loop in
+    let small = c .before .before .before .before .pre .1 (turn .t) (omega arith) in
+    omega (arith, turn .inv .1 .behind (turn .t) (omega arith))
+
+mul-counts-3 : tie.Need-mul-counts-3 Inv-loop μ-loop
+mul-counts-3 c = omega arith
+
+element-write-counts : tie.Need-element-write-counts Inv-loop μ-loop
+element-write-counts c = omega arith
+
+add-t : tie.Need-add-t Inv-loop μ-loop
+add-t c = omega arith
+
+loop-less : tie.Need-loop-less Inv-loop μ-loop
+loop-less c = omega arith
+
+loop-again : tie.Need-loop-again Inv-loop μ-loop
+loop-again c =
+    let turn = c .before .before .before .loop in
+    let start = c .before .before .before .before in
+    (omega arith, swept-next (turn .inv .1) (omega (arith, start .pre .0)) (λ ahead. rw ahead))
+
+returns : tie.Need-returns Inv-loop μ-loop
+returns c =
+    let turn = c .before .loop in
+    let end : turn .t ≡ 16 = omega arith in
+    rw end at (turn .inv .1)
+
+pub add-counts-spec : {M : Type 1} → statement M
+add-counts-spec =
+    tie.close
+    (tie.spec
+    Inv-loop
+    μ-loop
+    loop-holds
+    mul-counts
+    element-copy-out-counts
+    mul-counts-2
+    element-copy-out-counts-2
+    add-counts
+    mul-counts-3
+    element-write-counts
+    add-t
+    loop-less
+    loop-again
+    returns)
