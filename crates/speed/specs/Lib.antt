@@ -1,0 +1,2 @@
+-- The query that is timed.
+pub mod Timed
