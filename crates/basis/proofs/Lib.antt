@@ -8,4 +8,6 @@ pub mod Buffers
 pub mod Passing
 pub mod Members
 pub mod Runs
+pub mod Those
+pub mod Tables
 pub mod SingleReply

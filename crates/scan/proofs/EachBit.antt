@@ -1,24 +1,18 @@
 -- The result bit by bit: bit i is bit i mod 8, from the least significant, of byte i/8, and is set exactly when row i is found; a
 -- bit past the last row is 0. Assumes nothing.
---   bitIn           a bit of a result
---   bit-is-found    it is 1 for a row that is found, and 0 for every other
+--   bit-is-found    the bit of a row that is found is 1, and that of every other is 0
 use Prim.Native.Nat.{ℕ, zero, suc, _+_, _*_, _/_, _%_, _^_, _≤_, _<_}
 use native.Mathlib.Omega.{arith}
 use native.Mathlib.Nat.{zero-div}
 use mathlib.Core.Path.{_≡_, ap, _∙_}
 use mathlib.Core.Logic.{_⊎_, inl, inr}
-use mathlib.Core.List.{List}
 use mathlib.Core.Bool.{Bool, true, false, _&&_, cond}
 use borrow.Author.Tests.{le-ltb}
 use lib.Dec.{ltb}
 use lib.ListN.{getD, List·getD-eq-default}
 use Rattle.basis.proofs.Runs.{within-or-past, mapped-at}
-use Rattle.scan.specs.Bits.{bytesFor, bitsAt, bitsOf}
+use Rattle.scan.specs.Bits.{bytesFor, bitsAt, bitsOf, bitIn}
 use Rattle.scan.proofs.Packed.{length-bits}
-
--- bit i mod 8, from the least significant, of byte i/8
-unfoldable pub bitIn : List ℕ → ℕ → ℕ
-bitIn bytes i = getD bytes (i / 8) 0 / 2 ^ (i % 8) % 2
 
 -- a weight with 0 or 1
 weight-of : (is : Bool) (weight : ℕ) → cond is weight 0 ≡ weight * cond is 1 0

@@ -22,8 +22,8 @@ use Rattle.schedule.specs.Schedule.{found}
 use Rattle.schedule.specs.Comparisons.{ColumnTest, comparing}
 use Rattle.schedule.proofs.Meets as schedule
 use Rattle.scan.specs.Scanning.{widened, testsIn, bytesIn}
+use Rattle.scan.specs.Bits.{bitIn}
 use Rattle.scan.specs.Answers.{leftIn}
-use Rattle.scan.proofs.EachBit.{bitIn}
 use Rattle.scan.proofs.LeftBits.{bit-left}
 use Rattle.scan.proofs.Planning.{below-the-limit}
 use Rattle.scan.proofs.Accepting.{Accepted, fits}

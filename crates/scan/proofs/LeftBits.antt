@@ -15,10 +15,10 @@ use Rattle.query.specs.declared.Query.{Query}
 use Rattle.schedule.specs.Schedule.{found}
 use Rattle.schedule.specs.Comparisons.{comparing}
 use Rattle.scan.specs.Scanning.{testsIn, bytesIn}
-use Rattle.scan.specs.Bits.{bytesFor}
+use Rattle.scan.specs.Bits.{bytesFor, bitIn}
 use Rattle.scan.specs.Answers.{foundBits, leftIn}
 use Rattle.scan.proofs.Packed.{length-bits}
-use Rattle.scan.proofs.EachBit.{bitIn, bit-is-found}
+use Rattle.scan.proofs.EachBit.{bit-is-found}
 use Rattle.scan.proofs.Accepting.{Accepted}
 
 module _ (file : List ℕ) (size : ℕ) (query : Query) (out : List ℕ) (yes : Accepted file size query (length out)) where

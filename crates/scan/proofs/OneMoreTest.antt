@@ -21,9 +21,9 @@ use Rattle.schedule.specs.Comparisons.{comparing}
 use Rattle.schedule.proofs.Adding.{adds-no-more}
 use Rattle.schedule.proofs.MoreTests.{more-tests-find-no-more, one-more-test}
 use Rattle.scan.specs.Scanning.{widened, testsIn, bytesIn, segmentsIn}
+use Rattle.scan.specs.Bits.{bitIn}
 use Rattle.scan.specs.Answers.{accepted, scannedOf, leftIn}
 use Rattle.scan.specs.Steps.{testAt}
-use Rattle.scan.proofs.EachBit.{bitIn}
 use Rattle.scan.proofs.LeftBits.{bit-left}
 use Rattle.scan.proofs.Accepting.{Accepted, reply, counted}
 

@@ -1,8 +1,9 @@
 -- A result: a bit a row. Assumes nothing.
-use Prim.Native.Nat.{ℕ, _+_, _*_, _/_, _^_}
+use Prim.Native.Nat.{ℕ, _+_, _*_, _/_, _%_, _^_}
 use mathlib.Core.List.{List, map}
 use mathlib.Core.Bool.{Bool, _&&_, cond}
 use lib.Dec.{ltb}
+use lib.ListN.{getD}
 use Rattle.basis.specs.Lists.{sum, below}
 
 -- rows/8 rounded up
@@ -16,3 +17,7 @@ bitsAt found rows i = sum (λ k. cond (ltb (8 * i + k) rows && found (8 * i + k)
 -- all bytes
 unfoldable pub bitsOf : (ℕ → Bool) → ℕ → List ℕ
 bitsOf found rows = map (bitsAt found rows) (below (bytesFor rows))
+
+-- the bit of a row: bit i mod 8, from the least significant, of byte i/8
+unfoldable pub bitIn : List ℕ → ℕ → ℕ
+bitIn bytes i = getD bytes (i / 8) 0 / 2 ^ (i % 8) % 2

@@ -1,0 +1,9 @@
+-- The laws of the row list.
+pub mod Constants
+pub mod ByteByByte
+pub mod LastByte
+pub mod Outcomes
+pub mod Rising
+pub mod ListedRows
+pub mod Settled
+pub mod ScannedRows

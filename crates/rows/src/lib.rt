@@ -1,0 +1,160 @@
+// Turns the bits of a result into the list of the rows whose bit is set, rising.
+mod positions;
+
+use positions::POSITIONS;
+use register::MOST_ROWS;
+use register::Refusal;
+ghost use mathlib.Core.Path.{_≡_};
+ghost use Prim.Native.Nat.{_+_, _*_, _^_, _≤_, _<_};
+ghost use lib.ListN.{length, getD};
+ghost use mathlib.Core.List.{map};
+ghost use Rattle.basis.specs.Buffers.{laid};
+ghost use Rattle.register.specs.Limits.{mostRows};
+ghost use Rattle.scan.specs.Bits.{bytesFor};
+ghost use Rattle.rows.specs.Places.{placesOf, HoldsPlaces, HoldsOnes};
+ghost use Rattle.rows.specs.Answers.{refusedWith, shownOf};
+ghost use Rattle.rows.specs.RowList.{markedBelow, markedPast, unfitBits, listedOf, shownFor, leftIn};
+
+// The answer to listing: how many rows were written, or the refusal.
+pub enum Listed {
+    Rows(usize),
+    Refused(Refusal),
+}
+
+// How many bits of half a byte are set.
+const ONES: [u8; 16] = [0, 1, 1, 2, 1, 2, 2, 3, 1, 2, 2, 3, 2, 3, 3, 4];
+
+// Writes the rows whose bit is set to the front of `out`, rising. Refused, it changes nothing.
+pub fn list(rows: usize, bits: &[u8], out: &mut [u32]) -> Listed
+    ensures answer { λ r. ⌜ r ≡ listedOf rows (now (bits .entry)) (length (now (out .entry))) ⌝ }
+    ensures shown { λ r. ⌜ shownOf r ≡ shownFor rows (now (bits .entry)) (length (now (out .entry))) ⌝ }
+    ensures left { λ r. ⌜ now (out .exit) ≡ leftIn rows (now (bits .entry)) (now (out .entry)) ⌝ }
+{
+    if MOST_ROWS < rows {
+        return refused(3, 0);
+    }
+    if unfit(rows, bits) {
+        return refused(16, 0);
+    }
+    let ones = ONES;
+    let many = count_rows(&ones, bits);
+    if out.len() < many {
+        return refused(10, many);
+    }
+    let positions = POSITIONS;
+    write_rows(&positions, &ones, bits, out);
+    Listed::Rows(many)
+}
+
+fn refused(number: usize, need: usize) -> Listed
+    ensures { λ r. ⌜ r ≡ refusedWith number need ⌝ }
+{
+    Listed::Refused(Refusal {
+        number,
+        place: 0,
+        need,
+    })
+}
+
+// Whether the bits are too few or too many, or one past the last row is set.
+fn unfit(rows: usize, bits: &[u8]) -> bool
+    requires { ⌜ rows ≤ mostRows ⌝ }
+    ensures { λ r. ⌜ r ≡ unfitBits rows (now (bits .entry)) ⌝ }
+{
+    if bits.len() != (rows + 7) / 8 {
+        return true;
+    }
+    marked_past(rows, bits)
+}
+
+// Whether a bit past the last row is set in the last byte.
+fn marked_past(rows: usize, bits: &[u8]) -> bool
+    requires { ⌜ length (now bits) ≡ bytesFor rows ⌝ }
+    ensures { λ r. ⌜ r ≡ markedPast rows (now (bits .entry)) ⌝ }
+{
+    let used = rows % 8;
+    if used == 0 {
+        return false;
+    }
+    let weight: usize = 1 << used;
+    weight <= wide(bits[rows / 8])
+}
+
+fn wide(byte: u8) -> usize
+    ensures { λ r. ⌜ (r ≡ byte) × (r < 256) ⌝ }
+{
+    byte as usize
+}
+
+// How many bits of a byte are set.
+fn ones_of(ones: &[u8; 16], byte: u8) -> usize
+    requires { ⌜ HoldsOnes (now ones) ⌝ }
+    ensures { λ r. ⌜ (r ≡ length (placesOf byte)) × (r ≤ 8) ⌝ }
+{
+    wide(ones[wide(byte) / 16]) + wide(ones[wide(byte) % 16])
+}
+
+// How many bits are set in all bytes.
+fn count_rows(ones: &[u8; 16], bits: &[u8]) -> usize
+    requires { ⌜ HoldsOnes (now ones) × (length (now bits) ≤ mostRows) ⌝ }
+    ensures { λ r. ⌜ r ≡ length (markedBelow (8 * length (now (bits .entry))) (now (bits .entry))) ⌝ }
+{
+    let mut many: usize = 0;
+    let mut i = 0;
+    while i < bits.len() {
+        many = many + ones_of(ones, bits[i]);
+        i = i + 1;
+    }
+    many
+}
+
+// Writes the rows of all set bits to the front, byte after byte.
+fn write_rows(positions: &[u8; 2048], ones: &[u8; 16], bits: &[u8], out: &mut [u32])
+    requires { ⌜ HoldsPlaces (now positions) × HoldsOnes (now ones) × (length (now bits) ≤ mostRows) ⌝ }
+    requires { ⌜ length (markedBelow (8 * length (now bits)) (now bits)) ≤ length (now out) ⌝ }
+    ensures { λ _. ⌜ now (out .exit) ≡ laid (now (out .entry)) 0 (markedBelow (8 * length (now (bits .entry))) (now (bits .entry))) ⌝ }
+{
+    let mut at: usize = 0;
+    let mut i = 0;
+    while i < bits.len() {
+        let byte = bits[i];
+        let many = ones_of(ones, byte);
+        write_places(positions, byte, many, (8 * i) as u32, out, at);
+        at = at + many;
+        i = i + 1;
+    }
+}
+
+// Writes the rows of one byte from a place on; the byte's first bit is that of the first row.
+fn write_places(
+    positions: &[u8; 2048],
+    byte: u8,
+    many: usize,
+    first: u32,
+    out: &mut [u32],
+    at: usize,
+)
+    requires { ⌜ HoldsPlaces (now positions) × (many ≡ length (placesOf byte)) ⌝ }
+    requires { ⌜ (first + 256 < 2 ^ 32) × (at + many ≤ length (now out)) ⌝ }
+    ensures { λ _. ⌜ now (out .exit) ≡ laid (now (out .entry)) at (map (λ p. first + p) (placesOf byte)) ⌝ }
+{
+    let mut k = 0;
+    while k < many {
+        out[at + k] = first + position(positions, byte, k);
+        k = k + 1;
+    }
+}
+
+// The place of a byte's set bit number k, by the table.
+fn position(positions: &[u8; 2048], byte: u8, k: usize) -> u32
+    requires { ⌜ HoldsPlaces (now positions) × (k < 8) ⌝ }
+    ensures { λ r. ⌜ (r ≡ getD (placesOf byte) k 0) × (r < 256) ⌝ }
+{
+    row_number(positions[8 * wide(byte) + k])
+}
+
+fn row_number(place: u8) -> u32
+    ensures { λ r. ⌜ (r ≡ place) × (r < 256) ⌝ }
+{
+    place as u32
+}
