@@ -1,5 +1,7 @@
-// Times the proved scan beside plain C of the same schedule, in one run, on the same register, and holds their bits and totals
-// to each other. Workload: 1,048,576 rows, four columns of 17 bits, four tests "<". Least of many runs, in ns a row.
+// Times proved calls beside plain C, in one run and on the same input, and holds their answers to each other. Least of many runs,
+// in ns a row.
+//   scan    the same schedule in C; 1,048,576 rows, four columns of 17 bits, four tests "<"
+//   list    the same table in C; 1,048,576 rows with every bit set, with every other by chance, and with few
 // usage: speed [RUNS]
 #include <stdint.h>
 #include <stdio.h>
@@ -11,6 +13,8 @@ enum { ROWS = 1048576, COLUMNS = 4, WIDTH = 17, SLICES = 3, PAD = 7, LITERAL = 6
 
 // the proved call: scans with "< literal" on each of columns 0 to 3, and answers the total of the counts
 extern size_t scan_less(const uint8_t *file, size_t length, size_t size, uint64_t literal, uint8_t *result, size_t room);
+// the proved call: lists the rows whose bit is set, and answers how many
+extern size_t list_rows(size_t rows, const uint8_t *bits, size_t length, uint32_t *out, size_t room);
 
 static uint8_t *file;
 static size_t length;
@@ -99,18 +103,38 @@ static void scan_rows(uint8_t *result) {
     }
 }
 
+// The row list in plain C with the same table: the set bits are counted first, since a list that does not fit is refused.
+static uint8_t positions[256][8], ones[256];
+
+static void make_table(void) {
+    for (int byte = 0; byte < 256; byte++)
+        for (int place = 0; place < 8; place++)
+            if (byte >> place & 1) positions[byte][ones[byte]++] = (uint8_t)place;
+}
+
+static size_t list_c(const uint8_t *bits, uint32_t *out, size_t room) {
+    size_t many = 0, at = 0;
+    for (size_t i = 0; i < ROWS / 8; i++) many += ones[bits[i]];
+    if (room < many) return 0;
+    for (size_t i = 0; i < ROWS / 8; i++) {
+        uint8_t byte = bits[i], count = ones[byte];
+        for (uint8_t k = 0; k < count; k++) out[at + k] = (uint32_t)(8 * i) + positions[byte][k];
+        at += count;
+    }
+    return many;
+}
+
 static double now(void) {
     struct timespec t;
     clock_gettime(CLOCK_MONOTONIC, &t);
     return (double)t.tv_sec * 1e9 + (double)t.tv_nsec;
 }
 
-int main(int words, char **word) {
-    int runs = words > 1 ? atoi(word[1]) : 15;
+static int time_scan(int runs) {
     static uint8_t proved[ROWS / 8], plain[ROWS / 8], naive[ROWS / 8];
     make_register();
     scan_rows(naive);
-    printf("%-8s %12s %12s %8s\n", "segment", "proved", "plain C", "ratio");
+    printf("%-16s %12s %12s %8s\n", "scan", "proved", "plain C", "ratio");
     for (size_t size = 8; size <= 64; size *= 2) {
         double best = 1e18, best_c = 1e18;
         size_t total = 0, total_c = 0;
@@ -127,8 +151,47 @@ int main(int words, char **word) {
             printf("segment %zu: the two differ (totals %zu and %zu)\n", size, total, total_c);
             return 1;
         }
-        printf("%-8zu %9.2f ns %9.2f ns %8.2f\n", size, best / ROWS, best_c / ROWS, best / best_c);
+        printf("segment %-8zu %9.2f ns %9.2f ns %8.2f\n", size, best / ROWS, best_c / ROWS, best / best_c);
     }
     puts("bits and totals agree; bits agree with a scan row by row");
     return 0;
+}
+
+static int time_list(int runs) {
+    static uint8_t bits[ROWS / 8];
+    static uint32_t proved[ROWS], plain[ROWS];
+    static const char *const names[] = {"every row", "half of them", "one in 64"};
+    make_table();
+    printf("%-16s %12s %12s %8s\n", "list", "proved", "plain C", "ratio");
+    for (int kind = 0; kind < 3; kind++) {
+        uint64_t state = 88172645463325252u;
+        for (size_t i = 0; i < sizeof bits; i++) {
+            state ^= state << 13, state ^= state >> 7, state ^= state << 17;
+            uint8_t few = (state >> 20 & 7) == 0 ? (uint8_t)(1u << (state >> 24 & 7)) : 0;
+            bits[i] = kind == 0 ? 255 : kind == 1 ? (uint8_t)(state >> 32) : few;
+        }
+        double best = 1e18, best_c = 1e18;
+        size_t many = 0, many_c = 0;
+        for (int run = 0; run < runs; run++) {
+            double start = now();
+            many = list_rows(ROWS, bits, sizeof bits, proved, ROWS);
+            double middle = now();
+            many_c = list_c(bits, plain, ROWS);
+            double end = now();
+            if (middle - start < best) best = middle - start;
+            if (end - middle < best_c) best_c = end - middle;
+        }
+        if (many != many_c || memcmp(proved, plain, many * sizeof *plain)) {
+            printf("%s: the two differ (%zu and %zu rows)\n", names[kind], many, many_c);
+            return 1;
+        }
+        printf("%-16s %9.2f ns %9.2f ns %8.2f\n", names[kind], best / ROWS, best_c / ROWS, best / best_c);
+    }
+    puts("lists agree");
+    return 0;
+}
+
+int main(int words, char **word) {
+    int runs = words > 1 ? atoi(word[1]) : 15;
+    return time_scan(runs) || time_list(runs);
 }

@@ -1,10 +1,14 @@
-// The scan that is timed, as C calls it.
+// The calls that are timed, as C makes them.
 use query::Comparison;
 use query::Query;
 use query::Test;
+use rows::Listed;
 ghost use mathlib.Core.Path.{_≡_};
 ghost use lib.ListN.{length};
 ghost use Rattle.scan.specs.Answers.{scannedOf, leftIn};
+ghost use Rattle.rows.specs.Answers.{shownOf};
+ghost use Rattle.rows.specs.RowList.{shownFor};
+ghost use Rattle.rows.specs.RowList.{leftIn as listLeft};
 ghost use Rattle.speed.specs.Timed.{timedQuery};
 
 // Scans with the test "< literal" on each of columns 0 to 3, and answers the total of the counts; 0 where the scan is
@@ -39,4 +43,23 @@ fn timed_query(literal: u64) -> Query
         comparison,
     };
     Query { count: 4, tests }
+}
+
+// Lists the rows whose bit is set, and answers how many; 0 where the listing is refused.
+#[no_mangle]
+pub extern "C" fn list_rows(rows: usize, bits: &[u8], out: &mut [u32]) -> usize
+    ensures answer { λ r. ⌜ r ≡ shownFor rows (now (bits .entry)) (length (now (out .entry))) .listed ⌝ }
+    ensures left { λ _. ⌜ now (out .exit) ≡ listLeft rows (now (bits .entry)) (now (out .entry)) ⌝ }
+{
+    let listed = rows::list(rows, bits, out);
+    listed_in(listed)
+}
+
+fn listed_in(listed: Listed) -> usize
+    ensures { λ r. ⌜ r ≡ shownOf listed .listed ⌝ }
+{
+    match listed {
+        Listed::Rows(many) => many,
+        Listed::Refused(_) => 0,
+    }
 }

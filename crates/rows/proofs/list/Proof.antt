@@ -9,6 +9,7 @@ use borrow.Author.Needs.{needs}
 use Rattle.register.specs.Limits.{mostRows}
 use Rattle.scan.specs.Bits.{bytesFor}
 use Rattle.rows.specs.declared.Listed.the-variants.{Rows}
+use Rattle.rows.specs.Answers.{refusedWith}
 use Rattle.rows.specs.Places.{placesOf}
 use Rattle.rows.specs.RowList.{markedBelow, unfitBits}
 use Rattle.rows.proofs.Constants.{rightPlace, rightOnes, holds-places, holds-ones}
@@ -24,7 +25,7 @@ abbrev bitsOf : tie.Else2 → List ℕ
 bitsOf c = startOf c .args .bits .now
 
 few : (c : tie.Else2) → startOf c .args .rows ≤ mostRows
-few c = c .before .before .if1 .left
+few c = omega arith
 
 fit : (c : tie.Else2) → unfitBits (startOf c .args .rows) (bitsOf c) ≡ false
 fit c = sym (c .before .unfit .ensures) ∙ c .if2 .left
@@ -40,7 +41,7 @@ returns : tie.Need-returns
 returns c = too-many _ _ _ (c .before .if1 .taken) (c .refused .ensures)
 
 unfit-requires : tie.Need-unfit-requires
-unfit-requires c κs = c .if1 .left
+unfit-requires c κs = omega arith
 
 refused-requires-2 : tie.Need-refused-requires-2
 refused-requires-2 c κs = search needs
@@ -48,7 +49,7 @@ refused-requires-2 c κs = search needs
 returns-2 : tie.Need-returns-2
 returns-2 c =
     let judged = c .before .before in
-    unfit-bits _ _ _ (judged .before .if1 .left) (sym (judged .unfit .ensures) ∙ c .before .if2 .taken) (c .refused2 .ensures)
+    unfit-bits _ _ _ (omega arith) (sym (judged .unfit .ensures) ∙ c .before .if2 .taken) (c .refused2 .ensures)
 
 count-rows-requires : tie.Need-count-rows-requires
 unfolding rightOnes placesOf
@@ -62,7 +63,7 @@ returns-3 c =
     let counted = c .before .before in
     let past = counted .before .before in
     let many = counted .count-rows .ensures ∙ ap length (all-marked _ (bitsOf past) (fit past)) in
-    too-short _ (bitsOf past) _ (few past) (fit past) (rw many at (c .before .if3 .taken)) (rw many at (c .refused3 .ensures))
+    too-short _ (bitsOf past) _ (few past) (fit past) (rw many at (c .before .if3 .taken)) (c .refused3 .ensures ∙ ap (refusedWith 10) many)
 
 write-rows-requires : tie.Need-write-rows-requires
 unfolding rightPlace rightOnes placesOf

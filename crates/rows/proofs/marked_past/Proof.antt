@@ -1,9 +1,9 @@
 -- `rows::marked_past` meets its contract: the last byte is compared with the weight of its first unused place. Assumes nothing.
-use Prim.Native.Nat.{_*_, _%_, _^_}
+use Prim.Native.Nat.{ℕ, _*_, _%_, _^_}
 use native.Mathlib.Omega.{arith}
 use native.Mathlib.Nat.{one-mul}
 use mathlib.Core.Path.{_≡_, sym, ap, _∙_}
-use lib.Dec.{lit<}
+use lib.Dec.{lit<, leb}
 use lib.Pow.{shl-exact}
 use borrow.Author.Needs.{needs}
 use Rattle.scan.specs.Bits.{bytesFor}
@@ -29,7 +29,8 @@ returns-2 c =
     let known = c .before .before .before in
     let rows = known .before .args .rows in
     let weight : 1 * 2 ^ (rows % 8) % 2 ^ 64 ≡ 2 ^ (rows % 8) = shl-exact 1 (rows % 8) 64 (lit< tt) (omega arith) ∙ one-mul _ in
-    rw (weight, c .wide .ensures .0) (sym (part-of-byte rows _ (omega arith) (omega (arith, c .wide .ensures .0))))
+    ap (λ (w : ℕ). leb w (c .wide .result)) weight
+    ∙ rw (c .wide .ensures .0) (sym (part-of-byte rows _ (omega arith) (omega (arith, c .wide .ensures .0))))
 
 pub marked-past-spec : {M : Type 1} → statement M
 marked-past-spec = tie.close (tie.spec returns shl-weight shared-slice-read-wide wide-requires returns-2)
