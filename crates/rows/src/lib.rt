@@ -13,7 +13,7 @@ ghost use Rattle.register.specs.Limits.{mostRows};
 ghost use Rattle.scan.specs.Bits.{bytesFor};
 ghost use Rattle.rows.specs.Places.{placesOf, HoldsPlaces, HoldsOnes};
 ghost use Rattle.rows.specs.Answers.{refusedWith, shownOf};
-ghost use Rattle.rows.specs.RowList.{markedBelow, markedPast, unfitBits, listedOf, shownFor, leftIn};
+ghost use Rattle.rows.specs.RowList.{marked, markedBelow, markedPast, unfitBits, listedOf, shownFor, leftIn};
 
 // The answer to listing: how many rows were written, or the refusal.
 pub enum Listed {
@@ -84,6 +84,17 @@ fn wide(byte: u8) -> usize
     ensures { λ r. ⌜ (r ≡ byte) × (r < 256) ⌝ }
 {
     byte as usize
+}
+
+// Whether the bit of a row is set; the bits past the last byte are not.
+pub fn is_marked(bits: &[u8], row: usize) -> bool
+    ensures { λ r. ⌜ r ≡ marked (now (bits .entry)) row ⌝ }
+{
+    if bits.len() <= row / 8 {
+        return false;
+    }
+    let weight: usize = 1 << (row % 8);
+    wide(bits[row / 8]) / weight % 2 == 1
 }
 
 // How many bits of a byte are set.

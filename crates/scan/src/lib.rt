@@ -1,7 +1,7 @@
 // Scans a register: which rows meet every test of a query, and how many bytes each test needed. Rows
 // go by segments; a segment's slices are taken one after the other, by all tests, until none of them
 // has a row left that the next slice could decide.
-mod rows;
+mod standings;
 
 use query::Comparison;
 use query::MOST_TESTS;
@@ -10,11 +10,11 @@ use query::Test;
 use register::Opened;
 use register::Refusal;
 use register::Shape;
-use rows::in_rows;
-use rows::last_all;
-use rows::open_row;
-use rows::rule_all;
-use rows::step;
+use standings::in_rows;
+use standings::last_all;
+use standings::open_row;
+use standings::rule_all;
+use standings::step;
 ghost use mathlib.Core.Path.{_≡_};
 ghost use Prim.Native.Nat.{ℕ, _+_, _*_, _^_, _≤_, _<_, min};
 ghost use mathlib.Core.Bool.{false};
