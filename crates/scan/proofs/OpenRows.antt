@@ -1,6 +1,6 @@
 -- Whether some row of a segment keeps a test open, as a sum over its rows. Assumes nothing.
 --   openIn              1 for a row that keeps a test open, by the buffers
---   open-at-most-one    it is never more
+--   open-at-most-one    it is never more, whatever the row's standing
 --   none-open           a sum of 0: the test does not take the slice
 --   some-open           a sum over 0: it does, where it has the slice
 use Prim.Native.Nat.{ℕ, _+_, _-_, _*_, _≤_, _<_}
@@ -52,14 +52,8 @@ some-is-true false some = absurd (omega arith)
 module _ {g : Work} {j t : ℕ} {standings in-rows cs : List ℕ} {closed : Bool}
     (so-far : Progress g j t standings in-rows cs closed) (next : t < g .count) where
   -- never more than one a row
-  pub open-at-most-one : (k : ℕ) → k < g .n → openIn standings (t * 64) in-rows k ≤ 1
-  open-at-most-one k h =
-      omega (
-        arith,
-        at-most-in (eqb (getD standings (t * 64 + k) 0) 0) (getD in-rows k 0),
-        so-far .in-still k h,
-        at-most-one (isOut g j k),
-      )
+  pub open-at-most-one : (s k : ℕ) → k < g .n → openRow s (getD in-rows k 0) ≤ 1
+  open-at-most-one s k h = omega (arith, at-most-in (eqb s 0) (getD in-rows k 0), so-far .in-still k h, at-most-one (isOut g j k))
 
   -- row k of the segment keeps test t open
   abbrev keeps : ℕ → Bool

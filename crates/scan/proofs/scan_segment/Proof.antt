@@ -92,7 +92,7 @@ at-most-one : (c : RowCounted) → c .open-row .result ≤ 1
 at-most-one c =
     let turn = c .before .before .before .before .before in
     rw (c .open-row .ensures)
-    (open-at-most-one (so-far turn) (turn .tests-test .taken) (c .before .before .rows .r) (c .before .rows-test .taken))
+    (search (open-at-most-one (so-far turn) (turn .tests-test .taken), c .before .rows-test .taken))
 
 -- where some row is open: the turn, and where the segment's bytes of the slice begin
 abbrev turnOf : SomeOpen → Turn
