@@ -1,4 +1,5 @@
 -- The bits that a scan left are listed as the rows it found. Assumes nothing.
+--   one-or-none         1 or 0, tested for 1
 --   bits-left           the bytes that an accepted scan left for the file's rows: the bits of the rows found
 --   lists-the-found     their list is that of the rows found, rising
 --   lists-as-many       it is as long as the number of matches that the scan answered
@@ -35,8 +36,7 @@ use Rattle.rows.specs.declared.Listed.the-variants.{Rows}
 use Rattle.rows.specs.RowList.{marked, markedBelow, markedPast, unfitBits, listedOf}
 use Rattle.rows.proofs.Outcomes.{none-answers}
 
--- 1 or 0, tested for 1
-one-or-none : (is : Bool) → eqb (cond is 1 0) 1 ≡ is
+pub one-or-none : (is : Bool) → eqb (cond is 1 0) 1 ≡ is
 one-or-none true = refl
 one-or-none false = refl
 

@@ -1,0 +1,110 @@
+-- `listing::test_lines` meets its contract: the lines of the tests passed are written. Assumes nothing.
+use Prim.Native.Nat.{ℕ, _+_, _-_, _*_, _≤_}
+use native.Mathlib.Omega.{arith}
+use mathlib.Core.Path.{_≡_, ap, ap₂, _∙_}
+use mathlib.Core.List.{flatten}
+use borrow.Author.Needs.{needs}
+use Rattle.codes.specs.Width.{slicesOf}
+use Rattle.register.specs.Limits.{mostRows}
+use Rattle.listing.specs.Pieces.{Wrote}
+use Rattle.listing.specs.Listing.{testLines}
+use Rattle.listing.proofs.Writing.{same-room, wrote-nothing, written-then}
+use Rattle.listing.proofs.OneMore.{test-more}
+use Rattle.listing.proofs.Shapes.{same-rows, few-bytes}
+use Rattle.listing.proofs.test_lines.Statement.{statement}
+use Rattle.listing.proofs.test_lines.Tie as tie
+
+abbrev Inv-loop : tie.InvT-loop
+Inv-loop out₀ from at file shape count tests counts rows next₀ t₀ out next t =
+    (t ≤ count) × ((next ≤ at + 1000 * t) × Wrote from at (testLines file tests counts t) out₀ out next)
+
+abbrev μ-loop : tie.MeasureT-loop
+μ-loop out₀ from at file shape count tests counts rows next₀ t₀ out next t = count - t
+
+loop-holds : tie.Need-loop-holds Inv-loop μ-loop
+unfolding testLines flatten
+loop-holds c = (omega arith, (omega arith, wrote-nothing _ _ _))
+
+mul-test : tie.Need-mul-test Inv-loop μ-loop
+mul-test c = omega arith
+
+array-copy-out-test : tie.Need-array-copy-out-test Inv-loop μ-loop
+array-copy-out-test c = omega arith
+
+width-at-requires : tie.Need-width-at-requires Inv-loop μ-loop
+width-at-requires c κs =
+    let start = c .before .before .before .before .before in
+    (start .pre .1, start .pre .3 _ (c .before .loop-test .taken))
+
+mul-test-line : tie.Need-mul-test-line Inv-loop μ-loop
+mul-test-line c = omega arith
+
+array-read-test-line : tie.Need-array-read-test-line Inv-loop μ-loop
+array-read-test-line c = omega arith
+
+slices-of-requires : tie.Need-slices-of-requires Inv-loop μ-loop
+slices-of-requires c κs = search needs
+
+mul-test-line-2 : tie.Need-mul-test-line-2 Inv-loop μ-loop
+mul-test-line-2 c =
+    let start = c .before .before .before .before .before .before .before .before in
+    let width = c .before .before in
+    let bytes = few-bytes _ (start .args .shape) (start .pre .1) _ (start .pre .3 _ (width .before .before .loop-test .taken)) in
+    let slices = c .slices-of .ensures ∙ ap slicesOf (width .width-at .ensures) in
+    let product : start .args .shape .rows * c .slices-of .result ≤ mostRows * 4 = rw slices bytes in
+    omega (arith, product)
+
+test-line-requires : tie.Need-test-line-requires Inv-loop μ-loop
+test-line-requires c κs = omega arith
+
+add-t : tie.Need-add-t Inv-loop μ-loop
+add-t c = omega arith
+
+loop-less : tie.Need-loop-less Inv-loop μ-loop
+loop-less c = omega arith
+
+loop-again : tie.Need-loop-again Inv-loop μ-loop
+loop-again c =
+    let line = c .before .before in
+    let sliced = line .before in
+    let width = sliced .before .before in
+    let turn = width .before .before .before .loop in
+    let start = width .before .before .before .before .before .before in
+    let slices = sliced .slices-of .ensures ∙ ap slicesOf (width .width-at .ensures) in
+    let most = ap₂ (λ (a b : ℕ). a * b) (same-rows _ (start .args .shape) (start .pre .1)) slices in (
+      omega arith,
+      (
+        omega (arith, line .test-line .ensures .1),
+        rw (test-more _ _ _ (turn .t)) (written-then (turn .inv .1 .1) (rw most at (line .test-line .ensures .0))),
+      ),
+    )
+
+same-length : tie.Need-same-length Inv-loop μ-loop
+same-length c = same-room (c .before .loop .inv .1 .1)
+
+returns : tie.Need-returns Inv-loop μ-loop
+returns c =
+    let turn = c .before .loop in
+    let all : turn .t ≡ c .before .before .before .before .args .count = omega arith in
+    (rw all at (turn .inv .1 .1), omega arith)
+
+pub test-lines-spec : {M : Type 1} → statement M
+test-lines-spec =
+    tie.close
+    (tie.spec
+    Inv-loop
+    μ-loop
+    loop-holds
+    mul-test
+    array-copy-out-test
+    width-at-requires
+    mul-test-line
+    array-read-test-line
+    slices-of-requires
+    mul-test-line-2
+    test-line-requires
+    add-t
+    loop-less
+    loop-again
+    same-length
+    returns)

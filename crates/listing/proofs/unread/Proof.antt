@@ -1,0 +1,13 @@
+-- `listing::unread` meets its contract, by whether the input was read. Assumes nothing.
+use borrow.Author.Needs.{needs}
+use Rattle.listing.proofs.unread.Statement.{statement}
+use Rattle.listing.proofs.unread.Tie as tie
+
+returns : tie.Need-returns
+returns c = rw (c .if1 .taken)
+
+returns-2 : tie.Need-returns-2
+returns-2 c = search needs
+
+pub unread-spec : {M : Type 1} → statement M
+unread-spec = tie.close (tie.spec returns returns-2)

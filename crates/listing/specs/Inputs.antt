@@ -1,0 +1,34 @@
+-- What the program prints of the inputs that it read: 18 for the file, 18 for the text, or the listing. Assumes nothing.
+use Prim.Native.Nat.{ℕ}
+use mathlib.Core.List.{List}
+use mathlib.Core.Bool.{Bool, true, false, not, _||_}
+use lib.Dec.{ltb}
+use Rattle.register.specs.declared.Refusal.{Refusal}
+use Rattle.listing.specs.Pieces.{PieceWritten}
+use Rattle.listing.specs.Lines.{refusedLine}
+use Rattle.listing.specs.Listing.{Listed}
+
+-- a file of more than 65,536 bytes is not taken, nor a text of more than 4,096
+abbrev pub mostFile : ℕ
+mostFile = 65536
+
+abbrev pub mostText : ℕ
+mostText = 4096
+
+-- an input that could not be read, or is over its limit
+abbrev pub unreadInput : Bool → ℕ → ℕ → Bool
+unreadInput read bytes most = not read || ltb most bytes
+
+-- 18 has place 0
+abbrev pub refusal18 : Refusal
+refusal18 = record { number = 18; place = 0; need = 0 }
+
+-- one of the two is not taken: the file is judged first, but 18 says the same of both
+abbrev pub unreadInputs : Bool → ℕ → Bool → ℕ → Bool
+unreadInputs taken file given text = unreadInput taken file mostFile || unreadInput given text mostText
+
+-- a piece of what is printed: the line of 18 where an input is not taken, or the listing
+abbrev pub ListedRead : Bool → List ℕ → List ℕ → ℕ → List ℕ → List ℕ → ℕ → Type 0
+ListedRead unread file text from before after answer =
+    elim unread as (λ unread. Type 0)
+    [ true ↦ PieceWritten (refusedLine refusal18) from before after answer | false ↦ Listed file text from before after answer ]

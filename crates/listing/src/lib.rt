@@ -1,0 +1,173 @@
+// Lists what a query finds in a register: how many rows match, how many bytes each test needed, and
+// each row found with its codes; or why the query is refused.
+mod lines;
+mod pieces;
+
+use lines::head_line;
+use lines::refused_line;
+use lines::row_line;
+use lines::test_line;
+use query::Test;
+use register::Opened;
+use register::Refusal;
+use register::Shape;
+ghost use mathlib.Core.Path.{_≡_};
+ghost use Prim.Native.Nat.{_+_, _*_, _^_, _≤_, _<_};
+ghost use lib.ListN.{length};
+ghost use Rattle.register.specs.declared.Opened.the-variants.{Register};
+ghost use Rattle.register.specs.Opening.{openedOf};
+ghost use Rattle.rows.specs.RowList.{marked, markedBelow};
+ghost use Rattle.basis.specs.Lists.{those};
+ghost use mathlib.Core.List.{[], _∷_};
+ghost use Rattle.listing.specs.Pieces.{Wrote};
+ghost use Rattle.listing.specs.Listing.{Listed, testLines, rowLines};
+ghost use Rattle.listing.specs.Inputs.{unreadInput, unreadInputs, refusal18, ListedRead};
+ghost use Rattle.listing.specs.Steps.{ColumnsBelow};
+
+// Bytes that the program takes of a file, and of a query's text.
+pub const MOST_FILE: usize = 65536;
+
+pub const MOST_TEXT: usize = 4096;
+
+// Writes a piece of what the program prints, of a file that was taken or not and a text that was given
+// or not: refused by 18 where one was not or has too many bytes, and else the listing of the two.
+// Answers how many bytes there are to print.
+pub fn write_read(
+    taken: bool,
+    file: &[u8],
+    given: bool,
+    text: &[u8],
+    from: usize,
+    out: &mut [u8],
+) -> usize
+    ensures { λ r. ⌜ ListedRead (unreadInputs taken (length (now (file .entry))) given (length (now (text .entry))))
+        (now (file .entry)) (now (text .entry)) from (now (out .entry)) (now (out .exit)) r ⌝ }
+{
+    if unread(taken, file.len(), MOST_FILE) {
+        return refused_line(out, from, unreadable());
+    }
+    if unread(given, text.len(), MOST_TEXT) {
+        return refused_line(out, from, unreadable());
+    }
+    write(file, text, from, out)
+}
+
+// Whether an input is unfit to be taken.
+fn unread(read: bool, length: usize, most: usize) -> bool
+    ensures { λ r. ⌜ r ≡ unreadInput read length most ⌝ }
+{
+    if read { most < length } else { true }
+}
+
+fn unreadable() -> Refusal
+    ensures { λ r. ⌜ r ≡ refusal18 ⌝ }
+{
+    Refusal {
+        number: 18,
+        place: 0,
+        need: 0,
+    }
+}
+
+// Writes a piece of the listing of a file and a query's text: its bytes from a place on, as many as
+// `out` has room for. Answers how many bytes the whole listing has.
+pub fn write(file: &[u8], text: &[u8], from: usize, out: &mut [u8]) -> usize
+    ensures { λ r. ⌜ Listed (now (file .entry)) (now (text .entry)) from (now (out .entry)) (now (out .exit)) r ⌝ }
+{
+    let asked = text::read(text);
+    let refusal = asked.refusal;
+    if refusal.number != 0 {
+        return refused_line(out, from, refusal);
+    }
+    let opened = register::open(file);
+    let Opened::Register(shape) = opened else {
+        return refused_line(out, from, register::refusal_of(opened));
+    };
+    let query = asked.query;
+    let mut bits = [0u8; 131072];
+    let scanned = scan::scan(file, asked.size, query, &mut bits);
+    let refusal = scanned.refusal;
+    if refusal.number != 0 {
+        return refused_line(out, from, refusal);
+    }
+    let tests = query.tests;
+    let counts = scanned.counts;
+    let next = head_line(out, from, shape.rows, scanned.matches);
+    let next = test_lines(out, from, next, file, shape, tests, query.count, counts);
+    row_lines(out, from, next, file, shape, &bits)
+}
+
+// A line for each test.
+fn test_lines(
+    out: &mut [u8],
+    from: usize,
+    at: usize,
+    file: &[u8],
+    shape: Shape,
+    tests: [Test; 16],
+    count: usize,
+    counts: [usize; 16],
+) -> usize
+    requires { ⌜ (at ≤ 1000) × (openedOf (now file) ≡ Register shape) × (count ≤ 16) × ColumnsBelow (shape .columns) tests count ⌝ }
+    ensures { λ r. ⌜ Wrote from at (testLines (now (file .entry)) tests counts count) (now (out .entry)) (now (out .exit)) r × (r ≤ 17000) ⌝ }
+{
+    let rows = shape.rows;
+    let mut next = at;
+    let mut t = 0;
+    while t < count {
+        let test = tests[t];
+        let column = test.column;
+        let width = register::width_at(file, shape, column);
+        next = test_line(
+            out,
+            from,
+            next,
+            t,
+            counts[t],
+            rows * codes::slices_of(width),
+        );
+        t = t + 1;
+    }
+    next
+}
+
+// A line for each row whose bit is set.
+fn row_lines(
+    out: &mut [u8],
+    from: usize,
+    at: usize,
+    file: &[u8],
+    shape: Shape,
+    bits: &[u8],
+) -> usize
+    requires { ⌜ (at ≤ 17000) × (openedOf (now file) ≡ Register shape) ⌝ }
+    ensures { λ r. ⌜ Wrote from at (rowLines (now (file .entry)) (markedBelow (shape .rows) (now (bits .entry)))) (now (out .entry)) (now (out .exit)) r ⌝ }
+{
+    let rows = shape.rows;
+    let mut next = at;
+    let mut row = 0;
+    while row < rows {
+        next = put_row(out, from, next, file, shape, bits, row);
+        row = row + 1;
+    }
+    next
+}
+
+// The line of a row, where its bit is set.
+fn put_row(
+    out: &mut [u8],
+    from: usize,
+    at: usize,
+    file: &[u8],
+    shape: Shape,
+    bits: &[u8],
+    row: usize,
+) -> usize
+    requires { ⌜ (at < 2 ^ 60) × (openedOf (now file) ≡ Register shape) × (row < shape .rows) ⌝ }
+    ensures { λ r. ⌜ Wrote from at (rowLines (now (file .entry)) (those (marked (now (bits .entry))) (row ∷ []))) (now (out .entry)) (now (out .exit)) r × (r ≤ at + 1000) ⌝ }
+{
+    if rows::is_marked(bits, row) {
+        return row_line(out, from, at, file, shape, row);
+    }
+    at
+}
