@@ -1,0 +1,65 @@
+// Prints the file of an example register as a recall meets it, as the writer makes it: 10,000 pickups, and of each the
+// crystal lot (12 bits), the board issue (5), the test bench (4) and the site (3). The codes follow from the row alone.
+use libc::STDOUT_FILENO;
+use writer::Written;
+
+const ROWS: usize = 10000;
+
+fn main() {
+    let widths = [12u8, 5, 4, 3];
+    let mut codes = [0u64; 40000];
+    let mut out = [0u8; 50048];
+    print_register(&widths, &mut codes, &mut out);
+}
+
+fn print_register(widths: &[u8], codes: &mut [u64], out: &mut [u8]) {
+    fill(codes);
+    print_file(ROWS, widths, codes, out);
+}
+
+// The codes row after row, four a row.
+fn fill(codes: &mut [u64]) {
+    for at in 0..codes.len() {
+        codes[at] = code_of(at as u64 / 4, at % 4);
+    }
+}
+
+fn code_of(row: u64, column: usize) -> u64 {
+    match column {
+        0 => lot_of(row),
+        1 => issue_of(row),
+        2 => bench_of(row),
+        _ => site_of(row),
+    }
+}
+
+// A lot is good for forty pickups. Two in eleven still get a crystal of the lot before.
+fn lot_of(row: u64) -> u64 {
+    1700 + row / 40 - row % 11 / 9
+}
+
+// A new issue every 800 pickups. Two in fifty still get a board of the issue before.
+fn issue_of(row: u64) -> u64 {
+    3 + row / 800 - row % 50 / 48
+}
+
+// Twelve benches in turn, and the turn moves on every 90 pickups.
+fn bench_of(row: u64) -> u64 {
+    (row % 12 * 7 + row / 90) % 12
+}
+
+// Six sites, sixteen pickups a crate; one in five is kept back for the next site.
+fn site_of(row: u64) -> u64 {
+    (row / 16 + row % 5 / 4) % 6
+}
+
+// Writes the register into `out` and prints its file; a refused one prints nothing.
+fn print_file(rows: usize, widths: &[u8], codes: &[u64], out: &mut [u8]) {
+    let written = writer::write(rows, widths, codes, out);
+    let Written::Bytes(n) = written else {
+        return;
+    };
+    if n <= out.len() {
+        io::write_all(STDOUT_FILENO, &out[..n]);
+    }
+}
