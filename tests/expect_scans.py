@@ -111,4 +111,5 @@ def main():
     line('no file', (1, 0, 0), 0, 0, [], 'result ' + ' '.join(['77'] * 10))
 
 
-main()
+if __name__ == '__main__':
+    main()
