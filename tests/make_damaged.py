@@ -1,7 +1,7 @@
 #!/usr/bin/env python3
-"""Makes the stored files that the programs `damaged` and `describe` open: the same bytes at every run.
+"""Makes the stored files that the programs `damaged`, `describe` and `list_parts` open: the same bytes at every run.
 
-Writes each file of crates/damaged/data, and crates/describe/data/parts.bsl. A file is named for what is wrong with it and
+Writes each file of crates/damaged/data, and parts.bsl of the other two. A file is named for what is wrong with it and
 is good in every other way, so that only that fault can refuse it. Where that cannot be, a note beside it says what else
 is wrong. What each must answer stands in crates/damaged/stdout, which is written by hand and not by this script.
 """
@@ -9,7 +9,7 @@ from pathlib import Path
 
 TOP = Path(__file__).resolve().parent.parent
 DAMAGED = TOP / 'crates' / 'damaged' / 'data'
-PARTS = TOP / 'crates' / 'describe' / 'data' / 'parts.bsl'
+PARTS = [TOP / 'crates' / name / 'data' / 'parts.bsl' for name in ('describe', 'list_parts')]
 
 MARK = bytes([0x42, 0x53, 0x4C, 0x31])
 
@@ -174,8 +174,9 @@ def main() -> None:
     for group in groups:
         for name, file in group.items():
             (DAMAGED / name).write_bytes(file)
-    PARTS.parent.mkdir(parents=True, exist_ok=True)
-    PARTS.write_bytes(TEN_ROWS)
+    for path in PARTS:
+        path.parent.mkdir(parents=True, exist_ok=True)
+        path.write_bytes(TEN_ROWS)
 
 
 if __name__ == '__main__':

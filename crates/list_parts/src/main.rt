@@ -10,11 +10,14 @@ ghost use Prim.Native.Nat.{_≤_, _<_};
 ghost use lib.ListN.{length};
 ghost use Rattle.files.specs.Taking.{countOf};
 
+// Bytes that are printed at a time.
+const PIECE: usize = 65536;
+
 // Lends a byte more than is taken of each input, so that a larger one shows.
 fn main() {
     let mut file = [0u8; MOST_FILE + 1];
     let mut text = [0u8; MOST_TEXT + 1];
-    let mut out = [0u8; 65536];
+    let mut out = [0u8; PIECE];
     list_parts(&mut file, &mut text, &mut out);
 }
 
@@ -22,9 +25,15 @@ fn main() {
 fn list_parts(file: &mut [u8], text: &mut [u8], out: &mut [u8]) {
     let taken = files::read_file(b"parts.bsl", file);
     let given = files::take_all(STDIN_FILENO, text);
-    let n = bytes_of(taken);
-    let m = bytes_of(given);
-    print_listing(is_read(taken), &file[..n], is_read(given), &text[..m], out);
+    let file_bytes = bytes_of(taken);
+    let text_bytes = bytes_of(given);
+    print_listing(
+        is_read(taken),
+        &file[..file_bytes],
+        is_read(given),
+        &text[..text_bytes],
+        out,
+    );
 }
 
 fn is_read(taken: Taken) -> bool {

@@ -1,4 +1,5 @@
--- `list_parts::print_listing` prints pieces of a buffer that is not empty. The measure is how many bytes are left to print. Assumes nothing.
+-- `list_parts::print_listing` prints pieces of a buffer that is not empty. The measure is how many bytes are left to print.
+-- Assumes nothing.
 use Prim.Native.Nat.{_-_, _≤_, _<_}
 use native.Mathlib.Omega.{arith}
 use mathlib.Core.Path.{_≡_}
