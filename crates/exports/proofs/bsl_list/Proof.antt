@@ -1,0 +1,23 @@
+-- `exports::bsl_list` meets its contract: the call's own promise, as it is shown. Assumes nothing.
+use mathlib.Core.Path.{ap, _∙_}
+use Rattle.exports.specs.Replies.{listReply}
+use borrow.Author.Needs.{needs}
+use Rattle.exports.proofs.bsl_list.Statement.{statement}
+use Rattle.exports.proofs.bsl_list.Tie as tie
+
+list-requires : tie.Need-list-requires
+list-requires c κs = search needs
+
+listed-reply-requires : tie.Need-listed-reply-requires
+listed-reply-requires c κs = search needs
+
+same-length : tie.Need-same-length
+same-length c = search needs
+
+returns : tie.Need-returns
+returns c =
+    let told = c .before .before .before .list .ensures .1 in
+    (c .listed-reply .ensures ∙ ap listReply (told .0), told .1)
+
+pub bsl-list-spec : {M : Type 1} → statement M
+bsl-list-spec = tie.close (tie.spec list-requires listed-reply-requires same-length returns)

@@ -1,0 +1,24 @@
+-- `exports::bsl_lookup` meets its contract: the call's own promise, as it is shown. Assumes nothing.
+use mathlib.Core.Path.{ap, _∙_}
+use Rattle.exports.specs.Replies.{lookUpReply}
+use borrow.Author.Needs.{needs}
+use Rattle.exports.proofs.bsl_lookup.Statement.{statement}
+use Rattle.exports.proofs.bsl_lookup.Tie as tie
+
+look-up-requires : tie.Need-look-up-requires
+look-up-requires c κs = search needs
+
+looked-up-reply-requires : tie.Need-looked-up-reply-requires
+looked-up-reply-requires c κs = search needs
+
+same-length : tie.Need-same-length
+same-length c = search needs
+
+returns : tie.Need-returns
+returns c =
+    let told = c .before .before .before .look-up .ensures .1 in
+    (c .looked-up-reply .ensures ∙ ap lookUpReply (told .0), told .1)
+
+pub bsl-lookup-spec : {M : Type 1} → statement M
+bsl-lookup-spec =
+    tie.close (tie.spec look-up-requires looked-up-reply-requires same-length returns)

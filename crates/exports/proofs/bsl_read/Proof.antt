@@ -1,0 +1,18 @@
+-- `exports::bsl_read` meets its contract: the reader's own reply, as numbers. Assumes nothing.
+use borrow.Author.Needs.{needs}
+use Rattle.exports.proofs.bsl_read.Statement.{statement}
+use Rattle.exports.proofs.bsl_read.Tie as tie
+
+read-requires : tie.Need-read-requires
+read-requires c κs = search needs
+
+read-reply-requires : tie.Need-read-reply-requires
+read-reply-requires c κs = search needs
+
+returns : tie.Need-returns
+returns c =
+    let read = c .before .before .before .before in
+    (read .read .result, (read .read .ensures, c .read-reply .ensures))
+
+pub bsl-read-spec : {M : Type 1} → statement M
+bsl-read-spec = tie.close (tie.spec read-requires read-reply-requires returns)

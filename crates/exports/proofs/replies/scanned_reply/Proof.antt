@@ -1,0 +1,102 @@
+-- `exports::replies::scanned_reply` meets its contract: the counts stand behind the five numbers. Assumes nothing.
+use Prim.Native.Nat.{ℕ, _-_, _≤_}
+use native.Mathlib.Omega.{arith}
+use mathlib.Core.Path.{_≡_, refl, sym, ap, _∙_}
+use mathlib.Core.List.{List, [], _∷_, _++_, map}
+use lib.ListN.{length, getD}
+use Rattle.basis.specs.Lists.{below}
+use Rattle.basis.proofs.Buffers.{Filled, filled-nothing, filled-element}
+use borrow.Author.Needs.{needs}
+use Rattle.exports.specs.Replies.{scanReply}
+use Rattle.exports.proofs.Behind.{behind, each-number}
+use Rattle.exports.proofs.replies.scanned_reply.Statement.{statement}
+use Rattle.exports.proofs.replies.scanned_reply.Tie as tie
+
+abbrev Inv-loop : tie.InvT-loop
+Inv-loop counts reply₀ t₀ reply t =
+    (t ≤ 16) × ((length reply₀ ≡ 21) × Filled reply₀ 5 (map (λ i. getD counts i 0) (below t)) reply)
+
+abbrev μ-loop : tie.MeasureT-loop
+μ-loop counts reply₀ t₀ reply t = 16 - t
+
+array-write-reply : tie.Need-array-write-reply Inv-loop μ-loop
+array-write-reply c = search needs
+
+array-write-reply-2 : tie.Need-array-write-reply-2 Inv-loop μ-loop
+array-write-reply-2 c = search needs
+
+array-write-reply-3 : tie.Need-array-write-reply-3 Inv-loop μ-loop
+array-write-reply-3 c = search needs
+
+array-write-reply-4 : tie.Need-array-write-reply-4 Inv-loop μ-loop
+array-write-reply-4 c = search needs
+
+array-write-reply-5 : tie.Need-array-write-reply-5 Inv-loop μ-loop
+array-write-reply-5 c = search needs
+
+loop-holds : tie.Need-loop-holds Inv-loop μ-loop
+loop-holds c = (omega arith, (refl, filled-nothing _ _))
+
+mul-reply : tie.Need-mul-reply Inv-loop μ-loop
+mul-reply c = omega arith
+
+array-read-reply : tie.Need-array-read-reply Inv-loop μ-loop
+array-read-reply c = omega arith
+
+add-reply : tie.Need-add-reply Inv-loop μ-loop
+add-reply c = omega arith
+
+mul-reply-2 : tie.Need-mul-reply-2 Inv-loop μ-loop
+mul-reply-2 c = omega arith
+
+array-write-reply-6 : tie.Need-array-write-reply-6 Inv-loop μ-loop
+array-write-reply-6 c = omega arith
+
+add-t : tie.Need-add-t Inv-loop μ-loop
+add-t c = omega arith
+
+loop-less : tie.Need-loop-less Inv-loop μ-loop
+loop-less c = omega arith
+
+loop-again : tie.Need-loop-again Inv-loop μ-loop
+loop-again c =
+    let turn = c .before .loop in
+    let counts = c .before .before .before .before .args .scanned .counts in
+    (omega arith, (turn .inv .1 .0, filled-element _ 5 (λ i. getD counts i 0) (turn .t) (turn .inv .1 .1) (omega arith)))
+
+returns : tie.Need-returns Inv-loop μ-loop
+unfolding scanReply
+returns c =
+    let start = c .before .before .before .before in
+    let turn = c .before .loop in
+    let counts = start .args .scanned .counts in
+    let long : length counts ≡ 16 = search needs in
+    let all : turn .t ≡ 16 = omega arith in
+    let filled = rw all at (turn .inv .1 .1) in
+    let scanned = start .args .scanned in
+    let front : List ℕ =
+    scanned .refusal .number ∷ scanned .refusal .place ∷ scanned .refusal .need ∷ scanned .matches ∷ scanned .total ∷ [] in
+    behind _ 5 (map (λ i. getD counts i 0) (below 16)) filled (turn .inv .1 .0)
+    ∙ ap (λ (numbers : List ℕ). front ++ numbers) (each-number counts long)
+
+pub scanned-reply-spec : {M : Type 1} → statement M
+scanned-reply-spec =
+    tie.close
+    (tie.spec
+    Inv-loop
+    μ-loop
+    array-write-reply
+    array-write-reply-2
+    array-write-reply-3
+    array-write-reply-4
+    array-write-reply-5
+    loop-holds
+    mul-reply
+    array-read-reply
+    add-reply
+    mul-reply-2
+    array-write-reply-6
+    add-t
+    loop-less
+    loop-again
+    returns)

@@ -1,0 +1,3 @@
+-- The replies of the calls that C and Rust make.
+pub mod Replies
+pub mod Asked
