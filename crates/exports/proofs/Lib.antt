@@ -1,3 +1,4 @@
 -- The laws of the exported calls.
 pub mod Behind
 pub mod Scanning
+pub mod SingleReply
