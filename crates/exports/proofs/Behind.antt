@@ -8,7 +8,7 @@ use native.Mathlib.Omega.{arith}
 use native.Mathlib.Numerals.{add-one}
 use mathlib.Core.Path.{_≡_, refl, sym, ap, _∙_}
 use mathlib.Core.List.{List, [], _∷_, _++_, map, map-map, flatten, append-nil, append-assoc}
-use lib.ListN.{length, getD, take, drop, set, drop-of-length-le, length-append}
+use lib.ListN.{length, getD, take, set, drop-of-length-le, length-append}
 use lib.Seq.{take-all}
 use Rattle.basis.specs.Lists.{below}
 use Rattle.basis.proofs.Buffers.{Filled, filled-store}

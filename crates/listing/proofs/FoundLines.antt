@@ -2,13 +2,13 @@
 --   found-rows        so they are
 --   reads-small       a text asks at most sixteen tests, in sixteen slots
 --   columns-below     and the column of each is one of the file's
-use Prim.Native.Nat.{ℕ, _≤_, _<_}
+use Prim.Native.Nat.{ℕ, _≤_}
 use native.Mathlib.Omega.{arith}
-use mathlib.Core.Path.{_≡_, refl, sym, ap, _∙_}
-use mathlib.Core.List.{List, [], _++_}
-use lib.ListN.{length, getD, take, replicate, length-take, length-append, length-replicate}
+use mathlib.Core.Path.{_≡_, _∙_}
+use mathlib.Core.List.{List, []}
+use lib.ListN.{length, getD, length-take, length-append, length-replicate}
 use lib.Seq.{getD-take}
-use Rattle.basis.specs.Lists.{those, below}
+use Rattle.basis.specs.Lists.{below}
 use Rattle.basis.proofs.Lists.{at-is-member}
 use Rattle.basis.proofs.Runs.{in-below}
 use Rattle.basis.proofs.Those.{those-same}

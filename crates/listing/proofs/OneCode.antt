@@ -2,7 +2,7 @@
 --   one-code    what the lookup leaves in an output of one element
 use Prim.Native.Nat.{ℕ, _≤_, _<_}
 use native.Mathlib.Omega.{arith}
-use mathlib.Core.Path.{_≡_, refl, sym, ap, _∙_}
+use mathlib.Core.Path.{_≡_, refl, sym}
 use mathlib.Core.List.{List, [], _∷_}
 use borrow.Author.Tests.{lt-leb}
 use Rattle.basis.specs.Places.{firstPlace}

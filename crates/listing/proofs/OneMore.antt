@@ -3,10 +3,10 @@
 --   test-more    the line of one more test
 --   marked-line, unmarked-line    the lines of a row alone: its own, or none
 --   row-more     the line of one more row, where its bit is set
-use Prim.Native.Nat.{ℕ, suc, _+_}
+use Prim.Native.Nat.{ℕ, _+_}
 use native.Mathlib.Numerals.{add-one}
 use mathlib.Core.Path.{_≡_, refl, sym, ap, _∙_}
-use mathlib.Core.List.{List, [], _∷_, _++_, map, map-append, flatten, append-assoc, append-nil}
+use mathlib.Core.List.{List, [], _∷_, _++_, flatten, append-assoc, append-nil}
 use mathlib.Core.Bool.{true, false}
 use Rattle.basis.specs.Lists.{those, below}
 use Rattle.basis.proofs.Lists.{below-one-more, joined-one-more}

@@ -2,12 +2,11 @@
 --   one-listing    of a file and a text
 --   one-print      of inputs that were taken or not
 use Prim.Native.Nat.{ℕ}
-use mathlib.Core.Path.{_≡_, sym, ap, _∙_}
+use mathlib.Core.Path.{_≡_, sym, _∙_}
 use mathlib.Core.List.{List}
 use mathlib.Core.Bool.{Bool, true, false}
-use lib.ListN.{length}
 use Rattle.text.proofs.SingleReply.{single-reply}
-use Rattle.listing.specs.Pieces.{pieceOf, PieceWritten}
+use Rattle.listing.specs.Pieces.{PieceWritten}
 use Rattle.listing.specs.Lines.{refusedLine}
 use Rattle.listing.specs.Listing.{listingOf, Listed}
 use Rattle.listing.specs.Inputs.{refusal18, ListedRead}

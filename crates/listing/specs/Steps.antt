@@ -1,7 +1,7 @@
 -- What a step of the listing may rely on. Assumes nothing.
-use Prim.Native.Nat.{ℕ, _≤_, _<_}
+use Prim.Native.Nat.{ℕ, _<_}
 use mathlib.Core.List.{List}
-use lib.ListN.{length, getD}
+use lib.ListN.{getD}
 use Rattle.query.specs.declared.Test.{Test}
 use Rattle.query.specs.Tests.{emptySlot}
 

@@ -5,21 +5,20 @@
 --   next-fits         where all fit into a buffer, so do those of one byte more
 --   next-filled       writing those of a byte behind those of the bytes before
 --   none-past-last    where no bit past the last row is set, the marked rows are those of all bytes
-use Prim.Native.Nat.{ℕ, zero, suc, _+_, _-_, _*_, _/_, _%_, _^_, _≤_, _<_}
+use Prim.Native.Nat.{ℕ, zero, suc, _+_, _-_, _*_, _/_, _%_, _≤_, _<_}
 use native.Mathlib.Omega.{arith}
 use mathlib.Core.Path.{_≡_, refl, sym, ap, _∙_}
 use mathlib.Core.Logic.{_⊎_, inl, inr}
-use mathlib.Core.List.{List, [], _∷_, _++_, map, append-nil}
-use mathlib.Core.Bool.{Bool, true, false, cond}
-use lib.Dec.{T, eqb}
+use mathlib.Core.List.{List, _∷_, _++_, map, append-nil}
+use mathlib.Core.Bool.{true, false, cond}
 use lib.ListN.{length, getD, length-append, length-map}
-use Rattle.basis.specs.Lists.{any, those, sum, run, below}
+use Rattle.basis.specs.Lists.{those, run, below}
 use Rattle.basis.specs.Buffers.{laid}
 use Rattle.basis.proofs.Truth.{either, passes}
 use Rattle.basis.proofs.Lists.{sum-grows}
 use Rattle.basis.proofs.Buffers.{Filled, filled-more}
 use Rattle.basis.proofs.Members.{_∈_, any-from}
-use Rattle.basis.proofs.Runs.{in-run, in-below, run-joined}
+use Rattle.basis.proofs.Runs.{in-below, run-joined}
 use Rattle.basis.proofs.Those.{those-joined, those-mapped, those-same, those-none, length-those}
 use Rattle.scan.specs.Bits.{bytesFor, bitIn}
 use Rattle.rows.specs.Places.{isSet, placesOf}

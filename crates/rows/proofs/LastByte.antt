@@ -4,12 +4,12 @@
 use Prim.Native.Nat.{ℕ, _+_, _-_, _*_, _/_, _%_, _^_, _<_}
 use native.Mathlib.Omega.{arith}
 use mathlib.Core.Path.{_≡_, refl, ap, _∙_}
-use mathlib.Core.List.{List, map}
+use mathlib.Core.List.{List}
 use mathlib.Core.Bool.{Bool, true, false, not, cond}
 use lib.Dec.{T, leb}
 use lib.ListN.{getD}
 use Rattle.basis.specs.Lists.{any, all, run, below}
-use Rattle.basis.proofs.Members.{_∈_, all-gives, any-mapped, any-each-same}
+use Rattle.basis.proofs.Members.{all-gives, any-mapped, any-each-same}
 use Rattle.basis.proofs.Runs.{in-run, below-holds}
 use Rattle.scan.specs.Bits.{bytesFor}
 use Rattle.rows.specs.Places.{isSet}

@@ -2,13 +2,11 @@
 --   list-rises    of two places of the list, the later holds the greater row
 use Prim.Native.Nat.{ℕ, zero, suc, _<_}
 use native.Mathlib.Omega.{arith}
-use mathlib.Core.Path.{_≡_}
-use mathlib.Core.List.{List, [], _∷_}
+use mathlib.Core.List.{List, _∷_}
 use mathlib.Core.Bool.{Bool, true, false, cond}
 use lib.ListN.{length, getD}
 use Rattle.basis.specs.Lists.{those, run}
 use Rattle.basis.proofs.Lists.{at-is-member}
-use Rattle.basis.proofs.Members.{_∈_}
 use Rattle.basis.proofs.Runs.{in-run}
 use Rattle.basis.proofs.Those.{in-those}
 use Rattle.rows.specs.RowList.{marked, markedBelow}

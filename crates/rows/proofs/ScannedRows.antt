@@ -5,7 +5,6 @@
 --   lists-as-many       it is as long as the number of matches that the scan answered
 --   list-answers        listing them is not refused, given room for that many
 use Prim.Native.Nat.{ℕ, _-_, _*_, _≤_}
-use native.Mathlib.Omega.{arith}
 use mathlib.Core.Path.{_≡_, refl, sym, ap, _∙_}
 use mathlib.Core.Logic.{_⊎_, inl, inr}
 use mathlib.Core.List.{List}
@@ -17,7 +16,7 @@ use lib.Seq.{take-at}
 use Rattle.basis.specs.Lists.{any, those, run, below}
 use Rattle.basis.proofs.Buffers.{laid-front}
 use Rattle.basis.proofs.Truth.{either, passes}
-use Rattle.basis.proofs.Members.{_∈_, any-gives}
+use Rattle.basis.proofs.Members.{any-gives}
 use Rattle.basis.proofs.Runs.{in-run, in-below}
 use Rattle.basis.proofs.Those.{those-same, length-those}
 use Rattle.register.specs.File.{rowsIn}
@@ -26,7 +25,7 @@ use Rattle.query.specs.declared.Query.{Query}
 use Rattle.schedule.specs.Schedule.{found, matches}
 use Rattle.schedule.specs.Comparisons.{comparing}
 use Rattle.scan.specs.Scanning.{testsIn, bytesIn}
-use Rattle.scan.specs.Bits.{bytesFor, bitsOf, bitIn}
+use Rattle.scan.specs.Bits.{bytesFor, bitsOf}
 use Rattle.scan.specs.Answers.{foundBits, scannedOf, accepted, leftIn as scanLeft}
 use Rattle.scan.proofs.Packed.{length-bits}
 use Rattle.scan.proofs.EachBit.{bit-is-found}

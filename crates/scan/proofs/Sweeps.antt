@@ -2,7 +2,7 @@
 --   swept-nothing      before the first turn
 --   swept-one-more     a turn stores the next element
 --   swept-ahead        what is still ahead is as it was
-use Prim.Native.Nat.{ℕ, _+_, _-_, _≤_, _<_}
+use Prim.Native.Nat.{ℕ, _+_, _≤_, _<_}
 use native.Mathlib.Omega.{arith}
 use mathlib.Core.Path.{_≡_, refl, _∙_}
 use mathlib.Core.List.{List}

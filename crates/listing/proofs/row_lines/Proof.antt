@@ -1,9 +1,8 @@
 -- `listing::row_lines` meets its contract: the lines of the rows passed are written. Assumes nothing.
-use Prim.Native.Nat.{ℕ, _+_, _-_, _*_, _≤_}
+use Prim.Native.Nat.{_+_, _-_, _*_, _≤_}
 use native.Mathlib.Omega.{arith}
 use mathlib.Core.Path.{_≡_}
 use mathlib.Core.List.{flatten}
-use borrow.Author.Needs.{needs}
 use Rattle.rows.specs.RowList.{markedBelow}
 use Rattle.listing.specs.Pieces.{Wrote}
 use Rattle.listing.specs.Listing.{rowLines}

@@ -1,8 +1,6 @@
 -- `listing::write` meets its contract: each way that a query comes out is written as its definition says. Assumes nothing.
 use Prim.Native.Nat.{ℕ}
-use native.Mathlib.Omega.{arith}
 use mathlib.Core.Path.{_≡_, sym, ap, _∙_}
-use mathlib.Core.List.{List}
 use lib.ListN.{length, replicate, length-replicate}
 use borrow.Author.Needs.{needs}
 use Rattle.register.specs.declared.Opened.the-variants.{Register}

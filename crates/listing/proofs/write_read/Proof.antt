@@ -1,5 +1,5 @@
 -- `listing::write_read` meets its contract: either input is judged, and then the two are listed. Assumes nothing.
-use mathlib.Core.Path.{_≡_, sym, _∙_}
+use mathlib.Core.Path.{sym, _∙_}
 use borrow.Author.Needs.{needs}
 use Rattle.listing.proofs.Inputs.{file-unread, text-unread, both-read}
 use Rattle.listing.proofs.write_read.Statement.{statement}

@@ -3,7 +3,6 @@ use Prim.Native.Nat.{ℕ, _-_, _*_, _≤_}
 use native.Mathlib.Omega.{arith}
 use mathlib.Core.Path.{_≡_, refl, ap, _∙_}
 use lib.ListN.{length}
-use borrow.Author.Needs.{needs}
 use Rattle.rows.specs.RowList.{markedBelow}
 use Rattle.rows.proofs.ByteByByte.{one-more-counted}
 use Rattle.rows.proofs.count_rows.Statement.{statement}

@@ -11,7 +11,7 @@ use Rattle.scan.specs.Bits.{bytesFor}
 use Rattle.rows.specs.declared.Listed.the-variants.{Rows}
 use Rattle.rows.specs.Answers.{refusedWith}
 use Rattle.rows.specs.Places.{placesOf}
-use Rattle.rows.specs.RowList.{markedBelow, unfitBits}
+use Rattle.rows.specs.RowList.{unfitBits}
 use Rattle.rows.proofs.Constants.{rightPlace, rightOnes, holds-places, holds-ones}
 use Rattle.rows.proofs.Outcomes.{too-many, unfit-bits, too-short, listed, fit-length, all-marked}
 use Rattle.rows.proofs.list.Statement.{statement}

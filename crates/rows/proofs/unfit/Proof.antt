@@ -1,6 +1,5 @@
 -- `rows::unfit` meets its contract: the number of bytes first, then the last byte. Assumes nothing.
-use native.Mathlib.Omega.{arith}
-use mathlib.Core.Path.{_≡_, _∙_, sym}
+use mathlib.Core.Path.{_∙_, sym}
 use borrow.Author.Tests.{eq-eqb, ne-eqb}
 use borrow.Author.Needs.{needs}
 use Rattle.scan.specs.Bits.{bytesFor}

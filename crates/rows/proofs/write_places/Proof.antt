@@ -1,11 +1,9 @@
 -- `rows::write_places` meets its contract: the rows of the places passed stand from the place on. Assumes nothing.
 use Prim.Native.Nat.{ℕ, _+_, _-_, _≤_}
 use native.Mathlib.Omega.{arith}
-use mathlib.Core.Path.{_≡_, sym, ap, _∙_}
-use mathlib.Core.List.{List, map, map-map}
-use lib.ListN.{length, getD, set}
-use lib.Seq.{take-all}
-use borrow.Author.Needs.{needs}
+use mathlib.Core.Path.{_≡_, ap, _∙_}
+use mathlib.Core.List.{map}
+use lib.ListN.{length, getD}
 use Rattle.basis.specs.Lists.{below}
 use Rattle.basis.specs.Buffers.{laid}
 use Rattle.basis.proofs.Buffers.{Filled, filled-nothing, filled-element}

@@ -3,7 +3,6 @@ use Prim.Native.Nat.{ℕ, _-_, _*_, _≤_}
 use native.Mathlib.Omega.{arith}
 use mathlib.Core.Path.{_≡_, refl, ap, _∙_}
 use lib.ListN.{length}
-use borrow.Author.Needs.{needs}
 use Rattle.basis.specs.Buffers.{laid}
 use Rattle.basis.proofs.Buffers.{Filled, filled-nothing}
 use Rattle.rows.specs.RowList.{markedBelow}

@@ -3,7 +3,6 @@ use Prim.Native.Nat.{_+_, _-_, _*_, _≤_}
 use native.Mathlib.Omega.{arith}
 use mathlib.Core.Path.{_≡_}
 use mathlib.Core.List.{flatten}
-use borrow.Author.Needs.{needs}
 use Rattle.listing.specs.Pieces.{Wrote}
 use Rattle.listing.specs.Lines.{cells}
 use Rattle.listing.proofs.Writing.{same-room, wrote-nothing, written-then}

@@ -1,5 +1,4 @@
 -- `listing::pieces::put` meets its contract: the byte is before the piece, behind it, or in it. Assumes nothing.
-use native.Mathlib.Omega.{arith}
 use mathlib.Core.Path.{refl, sym}
 use borrow.Author.Needs.{needs}
 use Rattle.listing.proofs.Writing.{wrote-byte, put-before, put-behind, put-within}

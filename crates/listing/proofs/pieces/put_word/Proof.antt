@@ -4,7 +4,6 @@ use native.Mathlib.Omega.{arith}
 use mathlib.Core.Path.{_≡_}
 use lib.ListN.{length, take}
 use lib.Seq.{take-all}
-use borrow.Author.Needs.{needs}
 use Rattle.listing.specs.Pieces.{Wrote}
 use Rattle.listing.proofs.Writing.{same-room, wrote-nothing, written-on}
 use Rattle.listing.proofs.pieces.put_word.Statement.{statement}
