@@ -6,4 +6,3 @@ pub mod Compare
 pub mod Pads
 pub mod FirstByte
 pub mod LowHigh
-pub mod Settled

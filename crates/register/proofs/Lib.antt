@@ -4,4 +4,3 @@ pub mod Fit
 pub mod PassedOn
 pub mod Directory
 pub mod Body
-pub mod Settled

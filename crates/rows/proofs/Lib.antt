@@ -5,5 +5,4 @@ pub mod LastByte
 pub mod Outcomes
 pub mod Rising
 pub mod ListedRows
-pub mod Settled
 pub mod ScannedRows

@@ -28,4 +28,3 @@ pub mod AloneTest
 pub mod AgreeingFiles
 pub mod CountBounds
 pub mod FoundIsMeets
-pub mod Settled

@@ -3,4 +3,3 @@ pub mod Lengths
 pub mod Columns
 pub mod Writing
 pub mod Fit
-pub mod Settled

@@ -1,0 +1,2 @@
+-- The settled examples hold.
+pub mod Settled

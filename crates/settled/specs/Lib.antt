@@ -1,0 +1,4 @@
+-- The settled examples.
+pub mod Questions
+pub mod Registers
+pub mod Table
