@@ -58,9 +58,9 @@ impl Fault {
 
 static PLANTED: AtomicUsize = AtomicUsize::new(0);
 
-/// From now on the twin makes this mistake.
-pub fn plant(fault: Fault) {
-    PLANTED.store(fault as usize, Ordering::Relaxed);
+/// From now on the twin makes this mistake, or none.
+pub fn plant(fault: Option<Fault>) {
+    PLANTED.store(fault.map_or(0, |fault| fault as usize), Ordering::Relaxed);
 }
 
 pub(crate) fn planted(fault: Fault) -> bool {
