@@ -3,7 +3,7 @@
 // What every call keeps to:
 // - All memory is the caller's. A call uses what it is lent until it returns; it keeps no pointer and allocates nothing.
 // - A lent part is a pointer and the number of its elements. Only these are read or written. Where the number is 0 the pointer is
-//   not followed.
+//   not followed, and may be null.
 // - What is written (out, reply) must not overlap anything else that is lent to the same call.
 // - Every element of the reply is written, at every call. It begins with a refusal's number, place and need:
 //     accepted   the three are 0, and the answer follows

@@ -82,9 +82,36 @@ static void list_and_look_up(void) {
     same("lookup of row 77: place", 1, looked_up[BSL_PLACE]);
 }
 
+static void null_where_nothing_is_lent(void) {
+    const uint8_t widths[1] = {32};
+    uint8_t empty[24];
+    uint64_t reply[BSL_READ_REPLY];
+    bsl_open(NULL, 0, reply);
+    same("open null: number", 1, reply[BSL_NUMBER]);
+    bsl_read(NULL, 0, reply);
+    same("read null: number", 17, reply[BSL_NUMBER]);
+    bsl_write(0, NULL, 0, NULL, 0, NULL, 0, reply);
+    same("write null: number", 4, reply[BSL_NUMBER]);
+    bsl_write(0, widths, 1, NULL, 0, NULL, 0, reply);
+    same("write into null: need", sizeof empty, reply[BSL_NEED]);
+    bsl_write(0, widths, 1, NULL, 0, empty, sizeof empty, reply);
+    same("write no rows: bytes", sizeof empty, reply[BSL_ANSWER]);
+    bsl_scan(empty, sizeof empty, (const uint8_t *)"segment 8\n", 10, NULL, 0, reply);
+    same("scan no rows: number", 0, reply[BSL_NUMBER]);
+    bsl_scan(NULL, 0, NULL, 0, NULL, 0, reply);
+    same("scan null: number", 17, reply[BSL_NUMBER]);
+    bsl_list(0, NULL, 0, NULL, 0, reply);
+    same("list no rows: number", 0, reply[BSL_NUMBER]);
+    bsl_lookup(empty, sizeof empty, 0, NULL, 0, NULL, 0, reply);
+    same("lookup no rows: number", 0, reply[BSL_NUMBER]);
+    bsl_lookup(NULL, 0, 0, NULL, 0, NULL, 0, reply);
+    same("lookup null: number", 1, reply[BSL_NUMBER]);
+}
+
 int main(void) {
     open_and_write();
     read_and_scan();
     list_and_look_up();
+    null_where_nothing_is_lent();
     return faults ? 1 : 0;
 }
