@@ -17,10 +17,10 @@
 //
 // The numbers, in words (README.md says what to do about each):
 //    1  under 16 bytes, or no mark at the end          10  output too short; need: the elements it must have
-//    2  version not 1                                  11  more than 16 tests
+//    2  another version than 1                         11  more than 16 tests
 //    3  more than 1,048,576 rows                       12  no such column; place: the test, from 0
 //    4  no column, or more than 32                     13  literal too large for its column; place: the test, from 0
-//    5  directory not where the length puts it         14  segment size not 8, 16, 32 or 64
+//    5  directory not where the length puts it         14  segment size other than 8, 16, 32, 64
 //    6  unfit width or entry; place: the column        15  no such row; place: its index in the list
 //    7  slices do not end where the directory starts   16  not the bits of so many rows
 //    8  code too large; place: its index               17  malformed text; place: the line, from 0
@@ -78,8 +78,8 @@ void bsl_read(const uint8_t *text, size_t length, uint64_t reply[53]);
 // Scans a register for the rows that meet every test of a query.
 //   file    lent to be read: the whole file
 //   text    lent to be read: the query, as for bsl_read
-//   out     lent to be written: a bit for each row, row r at bit r mod 8, from the least significant, of byte r / 8; the bits of the
-//           last byte that belong to no row are 0
+//   out     lent to be written: a bit for each row, that of row r having the value 2^(r mod 8) in byte r / 8; a bit of the last byte
+//           that belongs to no row is 0
 //   reply   number, place, need, rows found, total of the counts, then for each of 16 slots the bytes counted for that test; 0 behind
 //           the last test
 // Numbers, in this order: 17 and 11 of the text, 1 to 7 of the file, 14, for each test in turn 12 and 13, and 10.

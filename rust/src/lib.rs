@@ -98,7 +98,8 @@ pub fn read(text: &[u8]) -> Result<Query, Refusal> {
     Ok(Query { size: reply[3], tests: tests.collect() })
 }
 
-/// Scans a register for the rows that meet every test of the query in `text`. Row r is bit r mod 8 of byte r / 8 of `out`.
+/// Scans a register for the rows that meet every test of the query in `text`. In `out`, row r
+/// is the bit of value 2^(r mod 8) in byte r / 8.
 /// Refusals: 17, 11, those of [`open`], 14, for each test in turn 12 and 13, and 10.
 pub fn scan(file: &[u8], text: &[u8], out: &mut [u8]) -> Result<Scanned, Refusal> {
     let mut reply = [0; raw::SCAN_REPLY];
