@@ -19,6 +19,16 @@ static void *room(size_t bytes) {
     return at;
 }
 
+// Fills the pads by chance, as a file from elsewhere may have them.
+static void fill_pads(struct register_input *input) {
+    uint8_t *last = input->file;
+    for (size_t column = 0; column < input->columns; column++, last += input->rows) {
+        unsigned bytes = (input->widths[column] + 7u) / 8, pad = 8 * bytes - input->widths[column];
+        last += (bytes - 1) * input->rows;
+        for (size_t row = 0; row < input->rows; row++) last[row] |= (uint8_t)(chance() >> 20 & ((1u << pad) - 1));
+    }
+}
+
 struct register_input make_register(size_t rows, const uint8_t *widths, size_t columns) {
     struct register_input input = {.rows = rows, .columns = columns, .ncodes = rows * columns};
     uint64_t reply[WRITE_REPLY];
@@ -29,6 +39,7 @@ struct register_input make_register(size_t rows, const uint8_t *widths, size_t c
     input.len = reply[2];
     input.file = room(input.len);
     c_write(rows, widths, columns, input.codes, input.ncodes, input.file, input.len, reply);
+    fill_pads(&input);
     return input;
 }
 

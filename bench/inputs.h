@@ -11,7 +11,7 @@ struct register_input {
     size_t rows, columns, ncodes, len;
     uint8_t widths[MOST_WIDTHS];
     uint64_t *codes;  // row after row
-    uint8_t *file;    // as the writer's twin writes it
+    uint8_t *file;    // as the writer's twin writes it, but for its pads: they hold bits by chance
 };
 
 struct register_input make_register(size_t rows, const uint8_t *widths, size_t columns);

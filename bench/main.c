@@ -35,8 +35,8 @@ enum { WORKLOADS = 4 };
 
 static const struct workload workloads[WORKLOADS] = {
     {"(a) four tests `<`, 17 bits", four_of_17, four_less},
-    {"(b) few rows match", mixed, "0 = 1822\n1 >= 4096\n2 < 400\n3 != 70000\n"},
-    {"(c) nearly all match", mixed, "0 != 1822\n1 >= 100\n2 != 7\n3 >= 1000\n"},
+    {"(b) few rows match", mixed, "0 = 1822\n1 >= 4096\n2 <= 400\n3 != 70000\n"},
+    {"(c) nearly all match", mixed, "0 != 1822\n1 >= 100\n2 != 7\n3 > 1000\n"},
     {"(d) one test `<`, 17 bits", four_of_17, "0 < 65000\n"},
 };
 
@@ -47,13 +47,13 @@ static struct scan_input ask(const struct register_input *parts, size_t size, co
 }
 
 // Holds the library's bits to those found row by row. Answers the matches.
-static unsigned long long hold_to_rows(const struct scan_input *input) {
+static unsigned long long hold_to_rows(const char *name, const struct scan_input *input) {
     size_t bytes = (input->parts->rows + 7) / 8;
     struct answer answer = {.out = malloc(bytes)};
     uint8_t *found = find_row_by_row(input->parts, input->text);
     scan_side(input, 0, &answer);
     if (memcmp(answer.out, found, bytes)) {
-        printf("%s: the library's bits are not those found row by row\n", input->text);
+        printf("%s: the library's bits are not those found row by row\n", name);
         exit(1);
     }
     free(answer.out), free(found);
@@ -74,7 +74,7 @@ static unsigned long long time_workload(const struct workload *workload, double 
     for (int i = 0; i < 4; i++) {
         double ns[MOST_SIDES];
         struct scan_input input = ask(&parts, 8u << i, workload->tests);
-        matches = hold_to_rows(&input);
+        matches = hold_to_rows(workload->name, &input);
         time_sides(workload->name, scan_side, &input, sides, FULL / 8, ns);
         print_scan(workload->name, 8u << i, ns);
         if (without_vectors) without_vectors[i] = ns[3] / FULL;
@@ -167,7 +167,7 @@ static void time_size(size_t rows, double ns[GROWING][2]) {
     struct scan_input small = ask(&parts, 8, four_less), large = ask(&parts, 64, four_less);
     struct lookup_input lookup = {&parts, 0, many, list};
     struct list_input listed = {rows, FULL / rows, bits};
-    hold_to_rows(&small);
+    hold_to_rows(growing[0], &small);
     time_sides(growing[0], scan_side, &small, 2, rows / 8, ns[0]);
     time_sides(growing[1], scan_side, &large, 2, rows / 8, ns[1]);
     time_sides(growing[2], lookup_side, &lookup, 2, many * sizeof(uint64_t), ns[2]);
