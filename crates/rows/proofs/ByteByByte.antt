@@ -3,7 +3,6 @@
 --   one-more-counted  and so many more
 --   no-fewer          below more rows, no fewer are marked
 --   next-fits         where all fit into a buffer, so do those of one byte more
---   next-filled       writing those of a byte behind those of the bytes before
 --   none-past-last    where no bit past the last row is set, the marked rows are those of all bytes
 use Prim.Native.Nat.{ℕ, zero, suc, _+_, _-_, _*_, _/_, _%_, _≤_, _<_}
 use native.Mathlib.Omega.{arith}
@@ -13,10 +12,8 @@ use mathlib.Core.List.{List, _∷_, _++_, map, append-nil}
 use mathlib.Core.Bool.{true, false, cond}
 use lib.ListN.{length, getD, length-append, length-map}
 use Rattle.basis.specs.Lists.{those, run, below}
-use Rattle.basis.specs.Buffers.{laid}
 use Rattle.basis.proofs.Truth.{either, passes}
 use Rattle.basis.proofs.Lists.{sum-grows}
-use Rattle.basis.proofs.Buffers.{Filled, filled-more}
 use Rattle.basis.proofs.Members.{_∈_, any-from}
 use Rattle.basis.proofs.Runs.{in-below, run-joined}
 use Rattle.basis.proofs.Those.{those-joined, those-mapped, those-same, those-none, length-those}
@@ -76,16 +73,6 @@ pub next-fits : (bits : List ℕ) (room i : ℕ) → i < length bits → length 
 next-fits bits room i inside fit =
     let more : 8 * (i + 1) ≤ 8 * length bits = omega arith in
     omega (arith, one-more-counted bits i, no-fewer bits more)
-
-pub next-filled : (bits buffer : List ℕ) (i : ℕ) {out after : List ℕ} (at : ℕ) → i < length bits →
-    length (markedBelow (8 * length bits) bits) ≤ length buffer → at ≡ length (markedBelow (8 * i) bits) →
-    Filled buffer 0 (markedBelow (8 * i) bits) out → after ≡ laid out at (map (λ p. 8 * i + p) (placesOf (getD bits i 0))) →
-    Filled buffer 0 (markedBelow (8 * (i + 1)) bits) after
-next-filled bits buffer i at inside fit place before said =
-    let more = map (λ p. 8 * i + p) (placesOf (getD bits i 0)) in
-    let long = length-map (placesOf (getD bits i 0)) (λ p. 8 * i + p) in
-    rw (one-more-byte bits i)
-    (filled-more buffer 0 (markedBelow (8 * i) bits) at more before (omega arith) (omega (arith, long, next-fits bits (length buffer) i inside fit)) said)
 
 pub none-past-last : (rows : ℕ) (bits : List ℕ) → markedPast rows bits ≡ false → markedBelow (8 * bytesFor rows) bits ≡ markedBelow rows bits
 unfolding markedBelow markedPast bytesFor

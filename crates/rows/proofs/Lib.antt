@@ -2,6 +2,7 @@
 pub mod Constants
 pub mod ByteByByte
 pub mod LastByte
+pub mod Ahead
 pub mod Outcomes
 pub mod Rising
 pub mod ListedRows

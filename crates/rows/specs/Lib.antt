@@ -2,3 +2,4 @@
 pub mod Places
 pub mod Answers
 pub mod RowList
+pub mod Steps

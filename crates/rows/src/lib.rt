@@ -11,7 +11,9 @@ ghost use mathlib.Core.List.{map};
 ghost use Rattle.basis.specs.Buffers.{laid};
 ghost use Rattle.register.specs.Limits.{mostRows};
 ghost use Rattle.scan.specs.Bits.{bytesFor};
+ghost use Rattle.basis.specs.Lists.{below};
 ghost use Rattle.rows.specs.Places.{placesOf, HoldsPlaces, HoldsOnes};
+ghost use Rattle.rows.specs.Steps.{rowAt, BytePut};
 ghost use Rattle.rows.specs.Answers.{refusedWith, shownOf};
 ghost use Rattle.rows.specs.RowList.{marked, markedBelow, markedPast, unfitBits, listedOf, shownFor, leftIn};
 
@@ -42,7 +44,7 @@ pub fn list(rows: usize, bits: &[u8], out: &mut [u32]) -> Listed
         return refused(10, many);
     }
     let positions = POSITIONS;
-    write_rows(&positions, &ones, bits, out);
+    write_rows(&positions, &ones, bits, many, out);
     Listed::Rows(many)
 }
 
@@ -119,10 +121,10 @@ fn count_rows(ones: &[u8; 16], bits: &[u8]) -> usize
     many
 }
 
-// Writes the rows of all set bits to the front, byte after byte.
-fn write_rows(positions: &[u8; 2048], ones: &[u8; 16], bits: &[u8], out: &mut [u32])
+// Writes the rows of all set bits, of which there are so many, to the front, byte after byte.
+fn write_rows(positions: &[u8; 2048], ones: &[u8; 16], bits: &[u8], all: usize, out: &mut [u32])
     requires { ⌜ HoldsPlaces (now positions) × HoldsOnes (now ones) × (length (now bits) ≤ mostRows) ⌝ }
-    requires { ⌜ length (markedBelow (8 * length (now bits)) (now bits)) ≤ length (now out) ⌝ }
+    requires { ⌜ (all ≡ length (markedBelow (8 * length (now bits)) (now bits))) × (all ≤ length (now out)) ⌝ }
     ensures { λ _. ⌜ now (out .exit) ≡ laid (now (out .entry)) 0 (markedBelow (8 * length (now (bits .entry))) (now (bits .entry))) ⌝ }
 {
     let mut at: usize = 0;
@@ -130,13 +132,37 @@ fn write_rows(positions: &[u8; 2048], ones: &[u8; 16], bits: &[u8], out: &mut [u
     while i < bits.len() {
         let byte = bits[i];
         let many = ones_of(ones, byte);
-        write_places(positions, byte, many, (8 * i) as u32, out, at);
+        put_byte(positions, byte, many, (8 * i) as u32, out, at, all);
         at = at + many;
         i = i + 1;
     }
 }
 
-// Writes the rows of one byte from a place on; the byte's first bit is that of the first row.
+// Puts the rows of one byte at a place. While eight more rows are to come all eight entries of its row
+// are stored, which takes no turn that cannot be foretold: what they put behind the byte's own rows is
+// overwritten by those of later bytes.
+fn put_byte(
+    positions: &[u8; 2048],
+    byte: u8,
+    many: usize,
+    first: u32,
+    out: &mut [u32],
+    at: usize,
+    all: usize,
+)
+    requires { ⌜ HoldsPlaces (now positions) × (many ≡ length (placesOf byte)) ⌝ }
+    requires { ⌜ (first + 256 < 2 ^ 32) × (at + many ≤ all) × (all ≤ length (now out)) ⌝ }
+    ensures { λ _. ⌜ BytePut byte first at all (now (out .entry)) (now (out .exit)) ⌝ }
+{
+    if at + 8 <= all {
+        write_places(positions, byte, 8, first, out, at);
+        return;
+    }
+    write_places(positions, byte, many, first, out, at);
+}
+
+// Writes the rows of a byte's first entries from a place on; the byte's first bit is that of the first
+// row.
 fn write_places(
     positions: &[u8; 2048],
     byte: u8,
@@ -145,9 +171,9 @@ fn write_places(
     out: &mut [u32],
     at: usize,
 )
-    requires { ⌜ HoldsPlaces (now positions) × (many ≡ length (placesOf byte)) ⌝ }
+    requires { ⌜ HoldsPlaces (now positions) × (many ≤ 8) ⌝ }
     requires { ⌜ (first + 256 < 2 ^ 32) × (at + many ≤ length (now out)) ⌝ }
-    ensures { λ _. ⌜ now (out .exit) ≡ laid (now (out .entry)) at (map (λ p. first + p) (placesOf byte)) ⌝ }
+    ensures { λ _. ⌜ now (out .exit) ≡ laid (now (out .entry)) at (map (rowAt byte first) (below many)) ⌝ }
 {
     let mut k = 0;
     while k < many {

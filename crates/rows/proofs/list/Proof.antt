@@ -69,7 +69,7 @@ write-rows-requires : tie.Need-write-rows-requires
 unfolding rightPlace rightOnes placesOf
 write-rows-requires c κs =
     let counted = c .before .before .before .before in
-    ((holds-places _ refl tt, holds-ones _ tt, short (counted .before .before)), rw (counted .count-rows .ensures) at (c .before .before .before .if3 .left))
+    ((holds-places _ refl tt, holds-ones _ tt, short (counted .before .before)), (counted .count-rows .ensures, c .before .before .before .if3 .left))
 
 same-length : tie.Need-same-length
 same-length c = search needs

@@ -1,20 +1,14 @@
 -- `rows::write_places` meets its contract: the rows of the places passed stand from the place on. Assumes nothing.
-use Prim.Native.Nat.{ℕ, _+_, _-_, _≤_}
+use Prim.Native.Nat.{ℕ, _-_, _≤_}
 use native.Mathlib.Omega.{arith}
 use mathlib.Core.Path.{_≡_, ap, _∙_}
 use mathlib.Core.List.{map}
-use lib.ListN.{length, getD}
 use Rattle.basis.specs.Lists.{below}
 use Rattle.basis.specs.Buffers.{laid}
 use Rattle.basis.proofs.Buffers.{Filled, filled-nothing, filled-element}
-use Rattle.rows.specs.Places.{placesOf}
-use Rattle.rows.proofs.Constants.{few-places, places-by-number}
+use Rattle.rows.specs.Steps.{rowAt}
 use Rattle.rows.proofs.write_places.Statement.{statement}
 use Rattle.rows.proofs.write_places.Tie as tie
-
--- the row of the place at a number
-abbrev rowAt : ℕ → ℕ → ℕ → ℕ
-rowAt byte first k = first + getD (placesOf byte) k 0
 
 abbrev Inv-loop : tie.InvT-loop
 Inv-loop positions byte many first out₀ at k₀ out k = (k ≤ many) × Filled out₀ at (map (rowAt byte first) (below k)) out
@@ -28,7 +22,7 @@ loop-holds c = (omega arith, filled-nothing _ _)
 position-requires : tie.Need-position-requires Inv-loop μ-loop
 position-requires c κs =
     let start = c .before .before .before in
-    (start .pre .0 .0, omega (arith, few-places (start .args .byte)))
+    (start .pre .0 .0, omega arith)
 
 add-out : tie.Need-add-out Inv-loop μ-loop
 add-out c = omega (arith, c .position .ensures .1)
@@ -63,10 +57,8 @@ returns : tie.Need-returns Inv-loop μ-loop
 returns c =
     let turn = c .before .loop in
     let a = c .before .before .before .args in
-    let all : turn .k ≡ length (placesOf (a .byte)) = omega arith in
-    turn .inv .1 .filled
-    ∙ ap (λ (n : ℕ). laid (a .out .now) (a .at) (map (rowAt (a .byte) (a .first)) (below n))) all
-    ∙ ap (laid (a .out .now) (a .at)) (places-by-number (a .byte) (a .first))
+    let all : turn .k ≡ a .many = omega arith in
+    turn .inv .1 .filled ∙ ap (λ (n : ℕ). laid (a .out .now) (a .at) (map (rowAt (a .byte) (a .first)) (below n))) all
 
 pub write-places-spec : {M : Type 1} → statement M
 write-places-spec =

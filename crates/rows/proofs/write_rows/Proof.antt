@@ -1,25 +1,28 @@
--- `rows::write_rows` meets its contract: the rows of the bytes passed stand at the front. Assumes nothing.
+-- `rows::write_rows` meets its contract: the rows of the bytes passed stand at the front, and from the end on nothing is changed.
+-- Assumes nothing.
 use Prim.Native.Nat.{ℕ, _-_, _*_, _≤_}
 use native.Mathlib.Omega.{arith}
-use mathlib.Core.Path.{_≡_, refl, ap, _∙_}
-use lib.ListN.{length}
-use Rattle.basis.specs.Buffers.{laid}
-use Rattle.basis.proofs.Buffers.{Filled, filled-nothing}
+use mathlib.Core.Path.{_≡_, refl, sym, ap, ap₂, _∙_}
+use mathlib.Core.List.{List, _++_}
+use lib.ListN.{length, take, drop, take-append-drop}
+use Rattle.basis.proofs.Buffers.{laid-front}
 use Rattle.rows.specs.RowList.{markedBelow}
-use Rattle.rows.proofs.ByteByByte.{one-more-counted, next-fits, next-filled}
+use Rattle.rows.proofs.ByteByByte.{one-more-byte, one-more-counted, next-fits}
 use Rattle.rows.proofs.write_rows.Statement.{statement}
 use Rattle.rows.proofs.write_rows.Tie as tie
 
 abbrev Inv-loop : tie.InvT-loop
-Inv-loop positions ones bits out₀ at₀ i₀ out at i =
-    (i ≤ length bits) × (at ≡ length (markedBelow (8 * i) bits)) × Filled out₀ 0 (markedBelow (8 * i) bits) out
+Inv-loop positions ones bits all out₀ at₀ i₀ out at i =
+    (i ≤ length bits) ×
+    ((at ≡ length (markedBelow (8 * i) bits)) ×
+    ((take at out ≡ markedBelow (8 * i) bits) × ((drop all out ≡ drop all out₀) × (length out ≡ length out₀))))
 
 abbrev μ-loop : tie.MeasureT-loop
-μ-loop positions ones bits out₀ at₀ i₀ out at i = length bits - i
+μ-loop positions ones bits all out₀ at₀ i₀ out at i = length bits - i
 
 loop-holds : tie.Need-loop-holds Inv-loop μ-loop
 unfolding markedBelow
-loop-holds c = (omega arith, refl, filled-nothing _ _)
+loop-holds c = (omega arith, (refl, (refl, (refl, refl))))
 
 shared-slice-read-byte : tie.Need-shared-slice-read-byte Inv-loop μ-loop
 shared-slice-read-byte c = omega arith
@@ -27,27 +30,27 @@ shared-slice-read-byte c = omega arith
 ones-of-requires : tie.Need-ones-of-requires Inv-loop μ-loop
 ones-of-requires c κs = c .before .before .before .before .before .pre .0 .1
 
-mul-write-places : tie.Need-mul-write-places Inv-loop μ-loop
-mul-write-places c = omega arith
+mul-put-byte : tie.Need-mul-put-byte Inv-loop μ-loop
+mul-put-byte c = omega arith
 
-cast-write-places : tie.Need-cast-write-places Inv-loop μ-loop
-cast-write-places c = omega arith
+cast-put-byte : tie.Need-cast-put-byte Inv-loop μ-loop
+cast-put-byte c = omega arith
 
-write-places-requires : tie.Need-write-places-requires Inv-loop μ-loop
-write-places-requires c κs =
+put-byte-requires : tie.Need-put-byte-requires Inv-loop μ-loop
+put-byte-requires c κs =
     let start = c .before .before .before .before .before .before .before in
     let turn = c .before .before .before .before .loop in
-    let fits = next-fits (start .args .bits .now) (length (start .args .out .now)) (turn .i) (omega arith) (start .pre .1) in
+    let fits = next-fits (start .args .bits .now) (start .args .all) (turn .i) (omega arith) (omega (arith, start .pre .1 .0)) in
     let ones = c .before .ones-of .ensures .0 in
-    ((start .pre .0 .0, ones), (omega arith, omega (arith, fits, ones, turn .inv .1, turn .inv .2 .same-length)))
+    ((start .pre .0 .0, ones), (omega arith, omega (arith, fits, ones, turn .inv .1 .0), omega (arith, start .pre .1 .1, turn .inv .1 .1 .1 .1)))
 
 add-at : tie.Need-add-at Inv-loop μ-loop
 add-at c =
     let back = c .before .before .before .before in
     let turn = back .before .before .before .loop in
     let start = back .before .before .before .before .before .before in
-    let fits = next-fits (start .args .bits .now) (length (start .args .out .now)) (turn .i) (omega arith) (start .pre .1) in
-    omega (arith, fits, back .ones-of .ensures .0, turn .inv .1)
+    let fits = next-fits (start .args .bits .now) (start .args .all) (turn .i) (omega arith) (omega (arith, start .pre .1 .0)) in
+    omega (arith, fits, back .ones-of .ensures .0, turn .inv .1 .0)
 
 add-i : tie.Need-add-i Inv-loop μ-loop
 add-i c = omega arith
@@ -60,21 +63,36 @@ loop-again c =
     let back = c .before .before .before .before in
     let turn = back .before .before .before .loop in
     let start = back .before .before .before .before .before .before in
-    let bits = start .args .bits .now in (
+    let bits = start .args .bits .now in
+    let ones = back .ones-of .ensures .0 in
+    let put = c .before .before .put-byte .ensures in (
       omega arith,
-      omega (arith, turn .inv .1, back .ones-of .ensures .0, one-more-counted bits (turn .i)),
-      next-filled bits (start .args .out .now) (turn .i) (turn .at) (omega arith) (start .pre .1) (turn .inv .1) (turn .inv .2) (c .before .before .write-places .ensures),
+      (
+        omega (arith, turn .inv .1 .0, ones, one-more-counted bits (turn .i)),
+        (
+          rw ones (put .front ∙ rw (turn .inv .1 .1 .0) (sym (one-more-byte bits (turn .i)))),
+          (put .behind ∙ turn .inv .1 .1 .1 .0, put .same-length ∙ turn .inv .1 .1 .1 .1),
+        ),
+      ),
     )
 
 same-length : tie.Need-same-length Inv-loop μ-loop
-same-length c = c .before .loop .inv .2 .same-length
+same-length c = c .before .loop .inv .1 .1 .1 .1
 
 returns : tie.Need-returns Inv-loop μ-loop
 returns c =
     let turn = c .before .loop in
-    let a = c .before .before .before .before .args in
-    let all : turn .i ≡ length (a .bits .now) = omega arith in
-    turn .inv .2 .filled ∙ ap (λ (n : ℕ). laid (a .out .now) 0 (markedBelow (8 * n) (a .bits .now))) all
+    let start = c .before .before .before .before in
+    let bits = start .args .bits .now in
+    let out = start .args .out .now in
+    let list = markedBelow (8 * length bits) bits in
+    let all : turn .i ≡ length bits = omega arith in
+    let end : turn .at ≡ start .args .all = turn .inv .1 .0 ∙ ap (λ (n : ℕ). length (markedBelow (8 * n) bits)) all ∙ sym (start .pre .1 .0) in
+    let front : take (start .args .all) (turn .out) ≡ list =
+    ap (λ (n : ℕ). take n (turn .out)) (sym end) ∙ turn .inv .1 .1 .0 ∙ ap (λ (n : ℕ). markedBelow (8 * n) bits) all in
+    sym (take-append-drop (start .args .all) (turn .out))
+    ∙ ap₂ (λ (a b : List ℕ). a ++ b) front (turn .inv .1 .1 .1 .0 ∙ ap (λ (n : ℕ). drop n out) (start .pre .1 .0))
+    ∙ sym (laid-front out 0 list)
 
 pub write-rows-spec : {M : Type 1} → statement M
 write-rows-spec =
@@ -85,9 +103,9 @@ write-rows-spec =
     loop-holds
     shared-slice-read-byte
     ones-of-requires
-    mul-write-places
-    cast-write-places
-    write-places-requires
+    mul-put-byte
+    cast-put-byte
+    put-byte-requires
     add-at
     add-i
     loop-less

@@ -1,0 +1,16 @@
+-- What a step of the list writes. Assumes nothing.
+use Prim.Native.Nat.{ℕ, _+_}
+use mathlib.Core.Path.{_≡_}
+use mathlib.Core.List.{List, _++_, map}
+use lib.ListN.{length, getD, take, drop}
+use Rattle.rows.specs.Places.{placesOf}
+
+-- the row of entry k of a byte whose first bit is that of the first row
+abbrev pub rowAt : ℕ → ℕ → ℕ → ℕ
+rowAt byte first k = first + getD (placesOf byte) k 0
+
+-- the rows of a byte stand behind what was before the place, and nothing is changed from the end on
+pub record BytePut (byte first at end : ℕ) (before after : List ℕ) : Type 0 where
+  pub front : take (at + length (placesOf byte)) after ≡ take at before ++ map (λ p. first + p) (placesOf byte)
+  pub behind : drop end after ≡ drop end before
+  pub same-length : length after ≡ length before
