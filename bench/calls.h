@@ -5,6 +5,11 @@
 #include <stddef.h>
 #include <stdint.h>
 
+// Where the header of the library stands, the declarations below are held to it.
+#if __has_include("../include/rutksmeln.h")
+#include "../include/rutksmeln.h"
+#endif
+
 enum { OPEN_REPLY = 5, WRITE_REPLY = 4, READ_REPLY = 53, SCAN_REPLY = 21, LIST_REPLY = 4, LOOKUP_REPLY = 4, MOST_REPLY = 53 };
 
 typedef void open_call(const uint8_t *file, size_t len, uint64_t *reply);
