@@ -193,8 +193,8 @@ static void time_growth(void) {
 
 int main(int words, char **word) {
     if (words > 1) runs = atoi(word[1]);
-    printf("%d rows, least of %d runs, the sides in turn. Output buffers are filled once, before the first call of a side, and not\n"
-           "cleared between calls; each side has its own.\n", FULL, runs);
+    printf("%d rows, least of %d runs, the sides in turn. Output buffers are filled once, before the first call\n"
+           "of a side, and not cleared between calls; each side has its own.\n", FULL, runs);
     time_scan(), time_lookup(), time_list(), time_write(), time_small(), time_growth();
     puts("\nAll replies and outputs agree; the scan's bits agree with a search row by row.");
     return 0;

@@ -40,13 +40,13 @@ static int line(struct cursor *text, uint64_t test[3]) {
     return number(text, ' ', &test[0]) && sign(text, &test[1]) && number(text, '\n', &test[2]);
 }
 
-static void refuse_text(uint64_t *reply, uint64_t number, uint64_t place) {
-    memset(reply, 0, 53 * sizeof *reply);
-    refuse(reply, number, place, 0);
+static void refuse_text(uint64_t *reply, uint64_t refusal, uint64_t place) {
+    memset(reply, 0, READ_REPLY * sizeof *reply);
+    refuse(reply, refusal, place, 0);
 }
 
 void c_read(const uint8_t *text, size_t len, uint64_t reply[53]) {
-    memset(reply, 0, 53 * sizeof *reply);
+    memset(reply, 0, READ_REPLY * sizeof *reply);
     if (len < 8 || memcmp(text, "segment ", 8)) return refuse_text(reply, 17, 0);
     struct cursor rest = {text + 8, text + len};
     if (!number(&rest, '\n', &reply[3])) return refuse_text(reply, 17, 0);

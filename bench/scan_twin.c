@@ -182,10 +182,10 @@ LATER(64)
 
 // All rows
 
-typedef void later(const struct plan *plan, size_t first, size_t n, uint8_t *in, uint64_t *counts);
+typedef void later_call(const struct plan *plan, size_t first, size_t n, uint8_t *in, uint64_t *counts);
 
 // A block of n rows; past them no row is in.
-INLINE uint64_t scan_block(const struct plan *plan, size_t first, size_t n, size_t size, later *later, struct block *block,
+INLINE uint64_t scan_block(const struct plan *plan, size_t first, size_t n, size_t size, later_call *later, struct block *block,
                            uint64_t *counts, uint8_t *out) {
     first_slices(plan, first, n, block);
     if (n % size) memset(block->in + n, 0, size - n % size);
@@ -196,7 +196,7 @@ INLINE uint64_t scan_block(const struct plan *plan, size_t first, size_t n, size
     return put_bits(block->in, n, out + first / 8);
 }
 
-INLINE uint64_t scan_rows(const struct plan *plan, size_t size, later *later, uint64_t *counts, uint8_t *out) {
+INLINE uint64_t scan_rows(const struct plan *plan, size_t size, later_call *later, uint64_t *counts, uint8_t *out) {
     size_t first = 0;
     uint64_t matches = 0;
     struct block block;
@@ -235,8 +235,8 @@ static uint64_t plan_tests(const uint8_t *file, size_t len, const uint64_t opene
 }
 
 void c_scan(const uint8_t *file, size_t len, const uint8_t *text, size_t tlen, uint8_t *out, size_t nout, uint64_t reply[21]) {
-    uint64_t asked[53], opened[5];
-    memset(reply, 0, 21 * sizeof *reply);
+    uint64_t asked[READ_REPLY], opened[OPEN_REPLY];
+    memset(reply, 0, SCAN_REPLY * sizeof *reply);
     c_read(text, tlen, asked);
     if (asked[0]) return refuse(reply, asked[0], asked[1], 0);
     c_open(file, len, opened);
