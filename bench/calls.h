@@ -1,16 +1,10 @@
-// The exported calls as C sees them, and their plain C twins: the same arguments, answers and refusals.
+// The exported calls, by the library's header, and their plain C twins: the same arguments, answers and refusals.
 #ifndef CALLS_H
 #define CALLS_H
 
-#include <stddef.h>
-#include <stdint.h>
-
-// Where the header of the library stands, the declarations below are held to it.
-#if __has_include("../include/rutksmeln.h")
 #include "../include/rutksmeln.h"
-#endif
 
-enum { OPEN_REPLY = 5, WRITE_REPLY = 4, READ_REPLY = 53, SCAN_REPLY = 21, LIST_REPLY = 4, LOOKUP_REPLY = 4, MOST_REPLY = 53 };
+enum { MOST_REPLY = BSL_READ_REPLY };
 
 typedef void open_call(const uint8_t *file, size_t len, uint64_t *reply);
 typedef void write_call(size_t rows, const uint8_t *widths, size_t columns, const uint64_t *codes, size_t ncodes, uint8_t *out,
@@ -22,12 +16,12 @@ typedef void list_call(size_t rows, const uint8_t *bits, size_t nbits, uint32_t 
 typedef void lookup_call(const uint8_t *file, size_t len, size_t column, const uint32_t *rows, size_t nrows, uint64_t *out,
                          size_t nout, uint64_t *reply);
 
-extern open_call bsl_open, c_open;
-extern write_call bsl_write, c_write;
-extern read_call bsl_read, c_read;
-extern scan_call bsl_scan, c_scan;
-extern list_call bsl_list, c_list;
-extern lookup_call bsl_lookup, c_lookup;
+extern open_call c_open;
+extern write_call c_write;
+extern read_call c_read;
+extern scan_call c_scan;
+extern list_call c_list;
+extern lookup_call c_lookup;
 
 // The scan's twin once more: with slice 1 taken segment by segment, and compiled without vectors.
 extern scan_call c_scan_by_segment, c_scan_without_vectors;

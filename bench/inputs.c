@@ -31,7 +31,7 @@ static void fill_pads(struct register_input *input) {
 
 struct register_input make_register(size_t rows, const uint8_t *widths, size_t columns) {
     struct register_input input = {.rows = rows, .columns = columns, .ncodes = rows * columns};
-    uint64_t reply[WRITE_REPLY];
+    uint64_t reply[BSL_WRITE_REPLY];
     memcpy(input.widths, widths, columns);
     input.codes = room(input.ncodes * sizeof *input.codes);
     for (size_t i = 0; i < input.ncodes; i++) input.codes[i] = chance() >> 7 & ((1ull << widths[i % columns]) - 1);
@@ -91,7 +91,7 @@ static int meets_all(const uint64_t *row, const uint64_t *asked) {
 }
 
 uint8_t *find_row_by_row(const struct register_input *input, const char *text) {
-    uint64_t asked[READ_REPLY];
+    uint64_t asked[BSL_READ_REPLY];
     uint8_t *bits = room(input->rows / 8 + 1);
     memset(bits, 0, input->rows / 8 + 1);
     c_read((const uint8_t *)text, strlen(text), asked);

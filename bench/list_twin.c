@@ -60,7 +60,7 @@ static void put_by_words(const uint8_t *bits, size_t nbits, uint32_t *out) {
 }
 
 void c_list(size_t rows, const uint8_t *bits, size_t nbits, uint32_t *out, size_t nout, uint64_t reply[4]) {
-    memset(reply, 0, LIST_REPLY * sizeof *reply);
+    memset(reply, 0, BSL_LIST_REPLY * sizeof *reply);
     if (rows > MOST_ROWS) return refuse(reply, 3, 0, 0);
     if (nbits != (rows + 7) / 8 || (rows % 8 && bits[nbits - 1] >> rows % 8)) return refuse(reply, 16, 0, 0);
     size_t many = count(bits, nbits);

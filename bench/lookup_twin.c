@@ -34,8 +34,8 @@ static void put_all(struct column column, size_t rows, const uint32_t *list, siz
 
 void c_lookup(const uint8_t *file, size_t len, size_t column, const uint32_t *rows, size_t nrows, uint64_t *out, size_t nout,
               uint64_t reply[4]) {
-    uint64_t opened[OPEN_REPLY];
-    memset(reply, 0, LOOKUP_REPLY * sizeof *reply);
+    uint64_t opened[BSL_OPEN_REPLY];
+    memset(reply, 0, BSL_LOOKUP_REPLY * sizeof *reply);
     c_open(file, len, opened);
     if (opened[0]) return refuse(reply, opened[0], opened[1], 0);
     if (column >= opened[4]) return refuse(reply, 12, 0, 0);

@@ -24,7 +24,7 @@ static int judge(const uint8_t *directory, size_t rows, size_t columns, size_t *
 }
 
 void c_open(const uint8_t *file, size_t len, uint64_t reply[5]) {
-    memset(reply, 0, OPEN_REPLY * sizeof *reply);
+    memset(reply, 0, BSL_OPEN_REPLY * sizeof *reply);
     if (len < TRAILER) return refuse(reply, 1, 0, 0);
     const uint8_t *trailer = file + len - TRAILER;
     if (memcmp(trailer + 12, "BSL1", 4)) return refuse(reply, 1, 0, 0);

@@ -41,12 +41,12 @@ static int line(struct cursor *text, uint64_t test[3]) {
 }
 
 static void refuse_text(uint64_t *reply, uint64_t refusal, uint64_t place) {
-    memset(reply, 0, READ_REPLY * sizeof *reply);
+    memset(reply, 0, BSL_READ_REPLY * sizeof *reply);
     refuse(reply, refusal, place, 0);
 }
 
 void c_read(const uint8_t *text, size_t len, uint64_t reply[53]) {
-    memset(reply, 0, READ_REPLY * sizeof *reply);
+    memset(reply, 0, BSL_READ_REPLY * sizeof *reply);
     if (len < 8 || memcmp(text, "segment ", 8)) return refuse_text(reply, 17, 0);
     struct cursor rest = {text + 8, text + len};
     if (!number(&rest, '\n', &reply[3])) return refuse_text(reply, 17, 0);

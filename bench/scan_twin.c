@@ -235,8 +235,8 @@ static uint64_t plan_tests(const uint8_t *file, size_t len, const uint64_t opene
 }
 
 void c_scan(const uint8_t *file, size_t len, const uint8_t *text, size_t tlen, uint8_t *out, size_t nout, uint64_t reply[21]) {
-    uint64_t asked[READ_REPLY], opened[OPEN_REPLY];
-    memset(reply, 0, SCAN_REPLY * sizeof *reply);
+    uint64_t asked[BSL_READ_REPLY], opened[BSL_OPEN_REPLY];
+    memset(reply, 0, BSL_SCAN_REPLY * sizeof *reply);
     c_read(text, tlen, asked);
     if (asked[0]) return refuse(reply, asked[0], asked[1], 0);
     c_open(file, len, opened);

@@ -79,7 +79,7 @@ static void put_end(const struct table *table, uint8_t *out, size_t body) {
 void c_write(size_t rows, const uint8_t *widths, size_t columns, const uint64_t *codes, size_t ncodes, uint8_t *out, size_t nout,
              uint64_t reply[4]) {
     struct table table = {rows, columns, widths, codes};
-    memset(reply, 0, WRITE_REPLY * sizeof *reply);
+    memset(reply, 0, BSL_WRITE_REPLY * sizeof *reply);
     if (rows > MOST_ROWS) return refuse(reply, 3, 0, 0);
     if (columns == 0 || columns > MOST_COLUMNS) return refuse(reply, 4, 0, 0);
     size_t unfit = first_unfit(widths, columns), body = 0;
