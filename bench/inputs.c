@@ -6,7 +6,9 @@
 
 #include "calls.h"
 
-static uint64_t state = 88172645463325252u;
+static uint64_t state;
+
+void same_inputs(void) { state = 88172645463325252u; }
 
 static uint64_t chance(void) {
     state ^= state << 13, state ^= state >> 7, state ^= state << 17;

@@ -1,4 +1,4 @@
-// What the calls are timed on: registers of uniform codes, lists of rows and bits, all from a fixed seed.
+// What the calls are timed on: registers of uniform codes, lists of rows and bits, all by chance from a fixed seed.
 #ifndef INPUTS_H
 #define INPUTS_H
 
@@ -6,6 +6,9 @@
 #include <stdint.h>
 
 enum { FULL = 1048576, MOST_WIDTHS = 32 };
+
+// Begins anew with the seed, so that the same inputs follow.
+void same_inputs(void);
 
 struct register_input {
     size_t rows, columns, ncodes, len;

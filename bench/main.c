@@ -1,26 +1,38 @@
 // Prints how long each exported call takes beside its plain C twin, as tables. A difference between their answers ends the run
 // with status 1.
 // usage: bench [RUNS]
+#include <stdarg.h>
 #include <stdio.h>
 #include <stdlib.h>
 #include <string.h>
 
 #include "sides.h"
 
+enum { ROUNDS = 5 };
+
+static int rounds_left = ROUNDS;
+
+// Prints, in the last round.
+static void say(const char *format, ...) {
+    va_list words;
+    va_start(words, format);
+    if (rounds_left == 1) vprintf(format, words);
+    va_end(words);
+}
+
 static const uint8_t four_of_17[] = {17, 17, 17, 17}, mixed[] = {12, 17, 9, 24}, looked_up[] = {8, 17, 32};
 static const char four_less[] = "0 < 65000\n1 < 65000\n2 < 65000\n3 < 65000\n";
 
 static void print_head(const char *first, const char *const *columns, size_t n) {
-    printf("\n| %s |", first);
-    for (size_t i = 0; i < n; i++) printf(" %s |", columns[i]);
-    printf("\n|---|");
-    for (size_t i = 0; i < n; i++) printf("---|");
-    putchar('\n');
+    say("\n| %s |", first);
+    for (size_t i = 0; i < n; i++) say(" %s |", columns[i]);
+    say("\n|---|");
+    for (size_t i = 0; i < n; i++) say("---|");
+    say("\n");
 }
 
 static void print_pair(const char *name, const double *ns, double many) {
-    printf("| %s | %.2f | %.2f | %.2f |\n", name, ns[0] / many, ns[1] / many, ns[0] / ns[1]);
-    fflush(stdout);
+    say("| %s | %.2f | %.2f | %.2f |\n", name, ns[0] / many, ns[1] / many, ns[0] / ns[1]);
 }
 
 // Scan
@@ -61,9 +73,8 @@ static unsigned long long hold_to_rows(const char *name, const struct scan_input
 }
 
 static void print_scan(const char *name, size_t size, const double *ns) {
-    printf("| %s, %zu |", name, size);
-    printf(" %.2f | %.2f | %.2f | %.2f | %.2f |\n", ns[0] / FULL, ns[1] / FULL, ns[0] / ns[1], ns[2] / FULL, ns[0] / ns[2]);
-    fflush(stdout);
+    say("| %s, %zu |", name, size);
+    say(" %.2f | %.2f | %.2f | %.2f | %.2f |\n", ns[0] / FULL, ns[1] / FULL, ns[0] / ns[1], ns[2] / FULL, ns[0] / ns[2]);
 }
 
 // Answers how many rows match.
@@ -89,8 +100,8 @@ static void time_scan(void) {
     unsigned long long matches[WORKLOADS];
     print_head("scan, segment, ns a row", columns, 5);
     for (int i = 0; i < WORKLOADS; i++) matches[i] = time_workload(&workloads[i], i ? NULL : plain);
-    printf("\nRows that match: %llu, %llu, %llu, %llu.\n", matches[0], matches[1], matches[2], matches[3]);
-    printf("C with -fno-tree-vectorize, workload (a), segments 8 16 32 64: %.2f %.2f %.2f %.2f\n", plain[0], plain[1], plain[2],
+    say("\nRows that match: %llu, %llu, %llu, %llu.\n", matches[0], matches[1], matches[2], matches[3]);
+    say("C with -fno-tree-vectorize, workload (a), segments 8 16 32 64: %.2f %.2f %.2f %.2f\n", plain[0], plain[1], plain[2],
            plain[3]);
 }
 
@@ -185,17 +196,24 @@ static void time_growth(void) {
     print_head("ns a row (lookup: a code)", columns, SIZES);
     for (int call = 0; call < GROWING; call++)
         for (int side = 0; side < 2; side++) {
-            printf("| %s%s |", growing[call], side ? ", C" : "");
-            for (int i = 0; i < SIZES; i++) printf(" %.2f |", ns[i][call][side]);
-            putchar('\n');
+            say("| %s%s |", growing[call], side ? ", C" : "");
+            for (int i = 0; i < SIZES; i++) say(" %.2f |", ns[i][call][side]);
+            say("\n");
         }
 }
 
-int main(int words, char **word) {
-    if (words > 1) runs = atoi(word[1]);
-    printf("%d rows, least of %d runs, the sides in turn. Output buffers are filled once, before the first call\n"
-           "of a side, and not cleared between calls; each side has its own.\n", FULL, runs);
+static void time_round(void) {
+    same_inputs();
     time_scan(), time_lookup(), time_list(), time_write(), time_small(), time_growth();
+    next_round();
+}
+
+int main(int words, char **word) {
+    int all = words > 1 ? atoi(word[1]) : 50;
+    runs = all / ROUNDS > 0 ? all / ROUNDS : 1;
+    printf("%d rows, least of %d runs in %d rounds, the sides in turn. Output buffers are filled before the first call of a\n"
+           "side in a round, and not cleared between calls; each side has its own.\n", FULL, runs * ROUNDS, ROUNDS);
+    for (; rounds_left; rounds_left--) time_round();
     puts("\nAll replies and outputs agree; the scan's bits agree with a search row by row.");
     return 0;
 }
