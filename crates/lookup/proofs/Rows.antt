@@ -1,5 +1,5 @@
 -- What an opened file says of a row that is looked up. Assumes nothing.
---   narrow          the column's width is at most the widest
+--   some-width, narrow    the column's width is at least 1 and at most the widest
 --   row-within      the row's byte of every slice stands in the file
 --   code-gathered   the row's code is its gathered bytes, joined
 use Prim.Native.Nat.{ℕ, _≤_, _<_}
@@ -25,6 +25,9 @@ module _ (file : List ℕ) (shape : Shape) (opened : openedOf file ≡ Register 
 
   column-there : column < columnsIn file
   column-there = omega (arith, ap (λ (s : Shape). s .columns) (opened-is-fit file shape opened .1))
+
+  pub some-width : 0 < widthIn file column
+  some-width = fit-column file column (opened-is-fit file shape opened .0 .each-fit column column-there) .some
 
   pub narrow : widthIn file column ≤ widest
   narrow = fit-column file column (opened-is-fit file shape opened .0 .each-fit column column-there) .narrow

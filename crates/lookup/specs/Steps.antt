@@ -1,5 +1,5 @@
 -- What a step of the lookup may rely on, and what it gathers. Assumes nothing.
-use Prim.Native.Nat.{ℕ, _+_, _*_, _<_}
+use Prim.Native.Nat.{ℕ, _+_, _*_, _<_, _≤_}
 use mathlib.Core.List.{List, map}
 use lib.ListN.{length, getD}
 use Rattle.basis.specs.Lists.{below}
@@ -8,6 +8,10 @@ use Rattle.codes.specs.Width.{slicesOf}
 -- every listed number is below a bound
 abbrev pub AllBelow : ℕ → List ℕ → Type 0
 AllBelow bound list = (i : ℕ) → i < length list → getD list i 0 < bound
+
+-- no listed number is above a bound
+abbrev pub NoneAbove : ℕ → List ℕ → Type 0
+NoneAbove bound list = (i : ℕ) → i < length list → getD list i 0 ≤ bound
 
 -- where a row's byte stands in a slice of a column that starts at the offset
 abbrev pub place : ℕ → ℕ → ℕ → ℕ → ℕ

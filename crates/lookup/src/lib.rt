@@ -4,13 +4,13 @@ use register::Refusal;
 use register::Shape;
 ghost use mathlib.Core.Path.{_≡_};
 ghost use Prim.Native.Nat.{_<_, _≤_};
-ghost use lib.ListN.{length};
+ghost use lib.ListN.{length, getD};
 ghost use Rattle.basis.specs.Buffers.{laid};
 ghost use Rattle.register.specs.declared.Opened.the-variants.{Register};
 ghost use Rattle.register.specs.Opening.{openedOf};
 ghost use Rattle.codes.specs.Width.{widest};
 ghost use Rattle.codes.specs.Bytes.{joined};
-ghost use Rattle.lookup.specs.Steps.{AllBelow, RowWithin, gathered};
+ghost use Rattle.lookup.specs.Steps.{AllBelow, NoneAbove, RowWithin, place, gathered};
 ghost use Rattle.lookup.specs.Answers.{refusedWith, shownOf};
 ghost use Rattle.lookup.specs.LookingUp.{firstMissing, codesOf, lookedUpOf, shownFor, leftIn};
 
@@ -61,10 +61,14 @@ fn wide(row: u32) -> usize
     row as usize
 }
 
-// The lowest index of a row number that is not below the rows, or the length of the list.
+// The lowest index of a row number that is not below the rows, or the length of the list. Mostly there
+// is none, which the greatest number tells sooner than the search.
 fn first_missing(rows: usize, list: &[u32]) -> usize
     ensures { λ r. ⌜ r ≡ firstMissing rows (now (list .entry)) ⌝ }
 {
+    if wide(greatest_of(list)) < rows {
+        return list.len();
+    }
     let mut i = 0;
     while i < list.len() {
         if rows <= wide(list[i]) {
@@ -73,6 +77,28 @@ fn first_missing(rows: usize, list: &[u32]) -> usize
         i = i + 1;
     }
     i
+}
+
+// A number that no listed one exceeds: the greatest of them, or 0 where there is none.
+fn greatest_of(list: &[u32]) -> u32
+    ensures { λ r. ⌜ NoneAbove r (now (list .entry)) ⌝ }
+{
+    let mut greatest: u32 = 0;
+    let mut i = 0;
+    while i < list.len() {
+        greatest = greater(greatest, list[i]);
+        i = i + 1;
+    }
+    greatest
+}
+
+fn greater(a: u32, b: u32) -> u32
+    ensures { λ r. ⌜ (a ≤ r) × (b ≤ r) ⌝ }
+{
+    if a < b {
+        return b;
+    }
+    a
 }
 
 // Writes the code of each listed row to the front, one for each.
@@ -91,17 +117,33 @@ fn write_codes(file: &[u8], shape: Shape, column: usize, list: &[u32], out: &mut
     }
 }
 
-// The code of a row: its bytes are gathered from the slices of a column that starts at the offset.
+// The code of a row: its bytes are gathered from the slices of a column that starts at the offset. Each
+// number of slices is a case of its own, so that the bytes need no memory on their way.
 fn code_of(file: &[u8], width: u8, offset: usize, rows: usize, row: usize) -> u64
-    requires { ⌜ (width ≤ widest) × RowWithin (now file) width offset rows row ⌝ }
+    requires { ⌜ (0 < width) × (width ≤ widest) × RowWithin (now file) width offset rows row ⌝ }
     ensures { λ r. ⌜ r ≡ joined width (gathered (now (file .entry)) width offset rows row) ⌝ }
 {
     let slices = codes::slices_of(width);
-    let mut bytes = [0u8; 4];
-    let mut slice = 0;
-    while slice < slices {
-        bytes[slice] = file[offset + slice * rows + row];
-        slice = slice + 1;
+    let first = byte_at(file, offset, rows, row, 0);
+    if slices == 1 {
+        return codes::join(width, &[first]);
     }
-    codes::join(width, &bytes[..slices])
+    let second = byte_at(file, offset, rows, row, 1);
+    if slices == 2 {
+        return codes::join(width, &[first, second]);
+    }
+    let third = byte_at(file, offset, rows, row, 2);
+    if slices == 3 {
+        return codes::join(width, &[first, second, third]);
+    }
+    let fourth = byte_at(file, offset, rows, row, 3);
+    codes::join(width, &[first, second, third, fourth])
+}
+
+// The byte of a row in a slice, counted from 0, of a column that starts at the offset.
+fn byte_at(file: &[u8], offset: usize, rows: usize, row: usize, slice: usize) -> u8
+    requires { ⌜ place offset rows row slice < length (now file) ⌝ }
+    ensures { λ r. ⌜ r ≡ getD (now (file .entry)) (place offset rows row slice) 0 ⌝ }
+{
+    file[offset + slice * rows + row]
 }

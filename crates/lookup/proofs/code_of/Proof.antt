@@ -1,130 +1,153 @@
--- `lookup::code_of` meets its contract: the bytes gathered are those of the slices passed, and joining them is the code.
--- Assumes nothing.
-use Prim.Native.Nat.{ℕ, _+_, _-_, _≤_, _<_}
+-- `lookup::code_of` meets its contract: in each case the bytes that are read are those of as many slices as the column has, in
+-- their order, and joining them is the code. Assumes nothing.
+use Prim.Native.Nat.{ℕ, _≤_, _<_}
 use native.Mathlib.Omega.{arith}
-use native.Mathlib.Numerals.{add-one}
-use mathlib.Core.Path.{_≡_, refl, sym, ap, _∙_}
-use mathlib.Core.List.{List, [], _∷_, _++_, map}
+use mathlib.Core.Path.{_≡_, sym, ap, _∙_}
+use mathlib.Core.List.{List, map}
 use borrow.Author.Needs.{needs}
-use lib.ListN.{length, take, getD, set, length-set}
-use lib.Seq.{take-suc-set, length-take-le}
+use lib.ListN.{length, getD}
 use Rattle.basis.specs.Lists.{below}
-use Rattle.basis.proofs.Lists.{map-one-more}
-use Rattle.codes.specs.Width.{slicesOf}
+use Rattle.codes.specs.Width.{widest, slicesOf}
 use Rattle.codes.specs.Bytes.{joined}
-use Rattle.codes.proofs.Width.{slices-at-most-four}
+use Rattle.codes.proofs.Width.{some-slice, slices-at-most-four}
 use Rattle.lookup.specs.Steps.{place, gathered}
 use Rattle.lookup.proofs.code_of.Statement.{statement}
 use Rattle.lookup.proofs.code_of.Tie as tie
 
-abbrev Inv-loop : tie.InvT-loop
-Inv-loop file width offset rows row slices bytes₀ slice₀ bytes slice =
-    (slice ≤ slices) × (slices ≤ 4) × (length bytes ≡ 4)
-    × (take slice bytes ≡ map (λ k. getD file (place offset rows row k) 0) (below slice))
+-- where the function begins
+abbrev start : tie.After-slices-of → tie.Start
+start c = c .before .before
 
-abbrev μ-loop : tie.MeasureT-loop
-μ-loop file width offset rows row slices bytes₀ slice₀ bytes slice = slices - slice
+-- the byte of a slice stands in the file
+inside : (c : tie.After-slices-of) (slice : ℕ) → slice < c .slices-of .result →
+    let a = start c .args in place (a .offset) (a .rows) (a .row) slice < length (a .file .now)
+inside c slice h = start c .pre .2 slice (omega (arith, c .slices-of .ensures))
 
-slices-of-requires : tie.Need-slices-of-requires Inv-loop μ-loop
+-- a column has one to four slices
+some : (c : tie.After-slices-of) → 0 < c .slices-of .result
+some c = omega (arith, c .slices-of .ensures, some-slice _ (start c .pre .0))
+
+few : (c : tie.After-slices-of) → c .slices-of .result ≤ 4
+few c = omega (arith, c .slices-of .ensures, slices-at-most-four _ (start c .pre .1))
+
+-- when the slices are so many, so are the bytes
+module _ (c : tie.After-slices-of) where
+  abbrev byte : ℕ → ℕ
+  byte slice = let a = start c .args in getD (a .file .now) (place (a .offset) (a .rows) (a .row) slice) 0
+
+  all-gathered : (n : ℕ) → c .slices-of .result ≡ n →
+      let a = start c .args in map byte (below n) ≡ gathered (a .file .now) (a .width) (a .offset) (a .rows) (a .row)
+  all-gathered n many = ap (λ (n : ℕ). map byte (below n)) (sym many ∙ c .slices-of .ensures)
+
+slices-of-requires : tie.Need-slices-of-requires
 slices-of-requires c κs = search needs
 
--- the byte that a turn reads stands in the file
-inside : (c : tie.In-loop Inv-loop μ-loop) →
-    let a = c .before .before .before .before .args in
-    place (a .offset) (a .rows) (a .row) (c .before .loop .slice) < length (a .file .now)
-inside c =
-    let told = c .before .before .slices-of .ensures in
-    c .before .before .before .before .pre .1 (c .before .loop .slice) (omega (arith, c .loop-test .taken))
+byte-at-requires : tie.Need-byte-at-requires
+byte-at-requires c κs = inside c 0 (some c)
 
--- storing the next byte gathers one more
-one-more : (f : ℕ → ℕ) (bytes : List ℕ) (n : ℕ) → n < length bytes → take n bytes ≡ map f (below n) →
-    take (n + 1) (set bytes n (f n)) ≡ map f (below (n + 1))
-one-more f bytes n room so-far =
-    rw (add-one, take-suc-set bytes n (f n) room, map-one-more f n) (ap (λ (front : List ℕ). front ++ (f n ∷ [])) so-far)
+slice-aggregate-join : tie.Need-slice-aggregate-join
+slice-aggregate-join c = search needs
 
--- when no slice is left, all bytes are gathered
-all-gathered : (c : tie.After-bytes Inv-loop μ-loop) →
-    let a = c .before .before .before .before .before .args in
-    take (c .before .before .before .slices-of .result) (c .before .before .loop .bytes) ≡
-    gathered (a .file .now) (a .width) (a .offset) (a .rows) (a .row)
-all-gathered c =
-    let turn = c .before .before .loop in
-    let told = c .before .before .before .slices-of .ensures in
-    let end : c .before .before .before .slices-of .result ≡ turn .slice = omega (arith, c .before .loop-test .left) in
-    let last : turn .slice ≡ slicesOf (c .before .before .before .before .before .args .width) = omega arith in
-    let a = c .before .before .before .before .before .args in
-    ap (λ (n : ℕ). take n (turn .bytes)) end ∙ turn .inv .3
-    ∙ ap (λ (n : ℕ). map (λ k. getD (a .file .now) (place (a .offset) (a .rows) (a .row) k) 0) (below n)) last
+join-requires : tie.Need-join-requires
+join-requires c κs = search needs
 
-loop-holds : tie.Need-loop-holds Inv-loop μ-loop
-loop-holds c =
-    let few = slices-at-most-four (c .before .before .args .width) (c .before .before .pre .0) in
-    (omega arith, omega (arith, c .slices-of .ensures), refl, refl)
+returns : tie.Need-returns
+returns c =
+    let one = c .before .before in
+    let read = one .before in
+    c .join .ensures ∙ ap (joined _) (rw (read .byte-at .ensures) (all-gathered (read .before) 1 (one .if1 .taken)))
 
-mul-bytes : tie.Need-mul-bytes Inv-loop μ-loop
-mul-bytes c = omega (arith, inside c)
+byte-at-requires-2 : tie.Need-byte-at-requires-2
+byte-at-requires-2 c κs =
+    let counted = c .before .before in
+    inside counted 1 (omega (arith, some counted, c .if1 .left))
 
-add-bytes : tie.Need-add-bytes Inv-loop μ-loop
-add-bytes c = omega (arith, inside c)
+slice-aggregate-join-2 : tie.Need-slice-aggregate-join-2
+slice-aggregate-join-2 c = search needs
 
-add-bytes-2 : tie.Need-add-bytes-2 Inv-loop μ-loop
-add-bytes-2 c = omega (arith, inside c)
+join-requires-2 : tie.Need-join-requires-2
+join-requires-2 c κs = search needs
 
-shared-slice-read-bytes : tie.Need-shared-slice-read-bytes Inv-loop μ-loop
-shared-slice-read-bytes c = inside (c .before)
+returns-2 : tie.Need-returns-2
+returns-2 c =
+    let two = c .before .before in
+    let read = two .before in
+    let earlier = read .before .before in
+    c .join2 .ensures
+    ∙ ap (joined _) (rw (earlier .byte-at .ensures, read .byte-at2 .ensures) (all-gathered (earlier .before) 2 (two .if2 .taken)))
 
-array-write-bytes : tie.Need-array-write-bytes Inv-loop μ-loop
-array-write-bytes c = omega arith
+byte-at-requires-3 : tie.Need-byte-at-requires-3
+byte-at-requires-3 c κs =
+    let counted = c .before .before .before .before in
+    inside counted 2 (omega (arith, some counted, c .before .before .if1 .left, c .if2 .left))
 
-add-slice : tie.Need-add-slice Inv-loop μ-loop
-add-slice c = omega arith
+slice-aggregate-join-3 : tie.Need-slice-aggregate-join-3
+slice-aggregate-join-3 c = search needs
 
-loop-less : tie.Need-loop-less Inv-loop μ-loop
-loop-less c = omega arith
+join-requires-3 : tie.Need-join-requires-3
+join-requires-3 c κs = search needs
 
-loop-again : tie.Need-loop-again Inv-loop μ-loop
-loop-again c =
-    let turn = c .before .before .loop in
-    let a = c .before .before .before .before .before .args in
-    let room : turn .slice < length (turn .bytes) = omega arith in (
-      omega arith,
-      turn .inv .1,
-      rw length-set (turn .inv .2),
-      one-more (λ k. getD (a .file .now) (place (a .offset) (a .rows) (a .row) k) 0) (turn .bytes) (turn .slice) room (turn .inv .3),
-    )
+returns-3 : tie.Need-returns-3
+returns-3 c =
+    let three = c .before .before in
+    let read = three .before in
+    let second = read .before .before in
+    let first = second .before .before in
+    c .join3 .ensures
+    ∙ ap (joined _)
+    (rw (first .byte-at .ensures, second .byte-at2 .ensures, read .byte-at3 .ensures) (all-gathered (first .before) 3 (three .if3 .taken)))
 
-array-share-prefix-bytes : tie.Need-array-share-prefix-bytes Inv-loop μ-loop
-array-share-prefix-bytes c = omega arith
+-- past the other cases there are four
+four : (c : tie.Else3) → c .before .before .before .before .before .before .slices-of .result ≡ 4
+four c =
+    let second = c .before .before in
+    let first = second .before .before in
+    let counted = first .before .before in
+    omega (arith, some counted, few counted, first .if1 .left, second .if2 .left, c .if3 .left)
 
-slice-aggregate-join : tie.Need-slice-aggregate-join Inv-loop μ-loop
-slice-aggregate-join c = sym (length-take-le _ _ (omega arith))
+byte-at-requires-4 : tie.Need-byte-at-requires-4
+byte-at-requires-4 c κs =
+    let counted = c .before .before .before .before .before .before in
+    inside counted 3 (omega (arith, four c))
 
-join-requires : tie.Need-join-requires Inv-loop μ-loop
-join-requires c κs = (
-  c .before .before .before .before .before .pre .0,
-  length-take-le _ _ (omega arith) ∙ c .before .before .before .slices-of .ensures,
-)
+slice-aggregate-join-4 : tie.Need-slice-aggregate-join-4
+slice-aggregate-join-4 c = search needs
 
-returns : tie.Need-returns Inv-loop μ-loop
-returns c = c .join .ensures ∙ ap (joined _) (all-gathered (c .before))
+join-requires-4 : tie.Need-join-requires-4
+join-requires-4 c κs =
+    let last = c .before .before in
+    let counted = last .before .before .before .before .before .before in
+    (start counted .pre .1, sym (four last) ∙ counted .slices-of .ensures)
+
+returns-4 : tie.Need-returns-4
+returns-4 c =
+    let read = c .before .before in
+    let third = read .before .before in
+    let second = third .before .before in
+    let first = second .before .before in
+    c .join4 .ensures
+    ∙ ap (joined _)
+    (rw (first .byte-at .ensures, second .byte-at2 .ensures, third .byte-at3 .ensures, read .byte-at4 .ensures)
+    (all-gathered (first .before) 4 (four (read .before))))
 
 pub code-of-spec : {M : Type 1} → statement M
 code-of-spec =
     tie.close
     (tie.spec
-    Inv-loop
-    μ-loop
     slices-of-requires
-    loop-holds
-    mul-bytes
-    add-bytes
-    add-bytes-2
-    shared-slice-read-bytes
-    array-write-bytes
-    add-slice
-    loop-less
-    loop-again
-    array-share-prefix-bytes
+    byte-at-requires
     slice-aggregate-join
     join-requires
-    returns)
+    returns
+    byte-at-requires-2
+    slice-aggregate-join-2
+    join-requires-2
+    returns-2
+    byte-at-requires-3
+    slice-aggregate-join-3
+    join-requires-3
+    returns-3
+    byte-at-requires-4
+    slice-aggregate-join-4
+    join-requires-4
+    returns-4)

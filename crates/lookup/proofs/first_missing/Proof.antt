@@ -1,4 +1,5 @@
--- `lookup::first_missing` meets its contract: every number passed is below the rows. Assumes nothing.
+-- `lookup::first_missing` meets its contract: where the greatest is below the rows, all are; else every number passed is. Assumes
+-- nothing.
 use Prim.Native.Nat.{ℕ, _-_, _≤_, _<_}
 use native.Mathlib.Omega.{arith}
 use mathlib.Core.Path.{_≡_, sym, _∙_}
@@ -18,6 +19,21 @@ Inv-loop rows list i₀ i = (i ≤ length list) × ((k : ℕ) → k < i → leb 
 abbrev μ-loop : tie.MeasureT-loop
 μ-loop rows list i₀ i = length list - i
 
+greatest-of-requires : tie.Need-greatest-of-requires Inv-loop μ-loop
+greatest-of-requires c κs = search needs
+
+wide-requires : tie.Need-wide-requires Inv-loop μ-loop
+wide-requires c κs = search needs
+
+returns : tie.Need-returns Inv-loop μ-loop
+returns c =
+    let called = c .before in
+    let args = called .before .before .before .args in
+    let none-above = called .before .greatest-of .ensures in
+    sym
+    (first-is-none _ _
+    (λ k h. lt-leb (args .rows) (getD (args .list .now) k 0) (omega (arith, none-above k h, called .wide .ensures, c .if1 .taken))))
+
 loop-holds : tie.Need-loop-holds Inv-loop μ-loop
 loop-holds c = (omega arith, λ k h. absurd (omega arith))
 
@@ -27,13 +43,13 @@ mul-wide c = omega arith
 shared-slice-read-wide : tie.Need-shared-slice-read-wide Inv-loop μ-loop
 shared-slice-read-wide c = omega arith
 
-wide-requires : tie.Need-wide-requires Inv-loop μ-loop
-wide-requires c κs = search needs
+wide-requires-2 : tie.Need-wide-requires-2 Inv-loop μ-loop
+wide-requires-2 c κs = search needs
 
-returns : tie.Need-returns Inv-loop μ-loop
-returns c =
+returns-2 : tie.Need-returns-2 Inv-loop μ-loop
+returns-2 c =
     let turn = c .before .before .before .before .loop in
-    sym (first-is _ _ (turn .i) (omega arith) (le-leb _ _ (rw (c .before .wide .ensures) at (c .if1 .taken))) (turn .inv .1))
+    sym (first-is _ _ (turn .i) (omega arith) (le-leb _ _ (rw (c .before .wide2 .ensures) at (c .if2 .taken))) (turn .inv .1))
 
 add-i : tie.Need-add-i Inv-loop μ-loop
 add-i c = omega arith
@@ -44,12 +60,12 @@ loop-less c = omega arith
 loop-again : tie.Need-loop-again Inv-loop μ-loop
 loop-again c =
     let turn = c .before .before .before .before .loop in
-    (omega arith, below-more _ _ (turn .inv .1) (lt-leb _ _ (rw (c .before .wide .ensures) at (c .if1 .left))))
+    (omega arith, below-more _ _ (turn .inv .1) (lt-leb _ _ (rw (c .before .wide2 .ensures) at (c .if2 .left))))
 
-returns-2 : tie.Need-returns-2 Inv-loop μ-loop
-returns-2 c =
+returns-3 : tie.Need-returns-3 Inv-loop μ-loop
+returns-3 c =
     let turn = c .before .loop in
-    let end : turn .i ≡ length (c .before .before .before .args .list .now) = omega arith in
+    let end : turn .i ≡ length (c .before .before .before .before .before .before .args .list .now) = omega arith in
     end ∙ sym (first-is-none _ _ (λ k h. turn .inv .1 k (omega arith)))
 
 pub first-missing-spec : {M : Type 1} → statement M
@@ -58,12 +74,15 @@ first-missing-spec =
     (tie.spec
     Inv-loop
     μ-loop
+    greatest-of-requires
+    wide-requires
+    returns
     loop-holds
     mul-wide
     shared-slice-read-wide
-    wide-requires
-    returns
+    wide-requires-2
+    returns-2
     add-i
     loop-less
     loop-again
-    returns-2)
+    returns-3)

@@ -11,7 +11,7 @@ use Rattle.basis.specs.Buffers.{laid}
 use Rattle.basis.proofs.Buffers.{laid-each}
 use Rattle.register.specs.Cells.{codeAt}
 use Rattle.lookup.specs.LookingUp.{codesOf}
-use Rattle.lookup.proofs.Rows.{narrow, row-within, code-gathered}
+use Rattle.lookup.proofs.Rows.{some-width, narrow, row-within, code-gathered}
 use Rattle.lookup.proofs.write_codes.Statement.{statement}
 use Rattle.lookup.proofs.write_codes.Tie as tie
 
@@ -58,7 +58,7 @@ code-of-requires c κs =
     let opened = start .pre .0 .0 in
     let there = start .pre .0 .1 in
     rw (width .width-at .ensures, c .before .before .before .before .offset-at .ensures, c .wide .ensures)
-    (narrow _ _ opened _ there, row-within _ _ opened _ there _ (start .pre .1 _ (c .before .before .loop-test .taken)))
+    (some-width _ _ opened _ there, narrow _ _ opened _ there, row-within _ _ opened _ there _ (start .pre .1 _ (c .before .before .loop-test .taken)))
 
 mul-out : tie.Need-mul-out Inv-loop μ-loop
 mul-out c = omega arith
