@@ -11,10 +11,9 @@ use register::Opened;
 use register::Refusal;
 use register::Shape;
 use standings::in_rows;
-use standings::last_all;
 use standings::open_row;
-use standings::rule_all;
 use standings::step;
+use standings::take_out_all;
 ghost use mathlib.Core.Path.{_≡_};
 ghost use Prim.Native.Nat.{ℕ, _+_, _*_, _^_, _≤_, _<_, min};
 ghost use mathlib.Core.Bool.{false};
@@ -167,8 +166,7 @@ fn plan_of(file: &[u8], shape: Shape, tests: [Test; 16], count: usize) -> Plan
         let literal = query::literal_of(comparison);
         offsets[t] = register::offset_at(file, shape, column);
         slices[t] = codes::slices_of(width);
-        plan_lows(width, literal, &mut lows, t * 4);
-        plan_highs(width, literal, &mut highs, t * 4);
+        plan_bytes(width, literal, &mut lows, &mut highs, t * 4);
         t = t + 1;
     }
     Plan {
@@ -179,27 +177,16 @@ fn plan_of(file: &[u8], shape: Shape, tests: [Test; 16], count: usize) -> Plan
     }
 }
 
-// Puts the literal's byte of each slice from a base on.
-fn plan_lows(width: u8, literal: u64, lows: &mut [u8; 64], base: usize)
-    requires { ⌜ FitLiteral width literal × (base + 4 ≤ 64) × (length (now lows) ≡ 64) ⌝ }
-    ensures { λ _. ⌜ Swept (now (lows .entry)) (now (lows .exit)) base (slicesOf width) (λ j. byteOf width literal j) ⌝ }
+// Puts the bytes of each slice between which a row counts as equal to the literal, from a base on.
+fn plan_bytes(width: u8, literal: u64, lows: &mut [u8; 64], highs: &mut [u8; 64], base: usize)
+    requires { ⌜ FitLiteral width literal × (base + 4 ≤ 64) × (length (now lows) ≡ 64) × (length (now highs) ≡ 64) ⌝ }
+    ensures low { λ _. ⌜ Swept (now (lows .entry)) (now (lows .exit)) base (slicesOf width) (λ j. byteOf width literal j) ⌝ }
+    ensures high { λ _. ⌜ Swept (now (highs .entry)) (now (highs .exit)) base (slicesOf width) (λ j. highOf width j (byteOf width literal j)) ⌝ }
 {
     let slices = codes::slices_of(width);
     let mut j = 0;
     while j < slices {
         lows[base + j] = codes::byte_of(width, literal, j);
-        j = j + 1;
-    }
-}
-
-// Puts the greatest byte that counts as equal to the literal's, in each slice, from a base on.
-fn plan_highs(width: u8, literal: u64, highs: &mut [u8; 64], base: usize)
-    requires { ⌜ FitLiteral width literal × (base + 4 ≤ 64) × (length (now highs) ≡ 64) ⌝ }
-    ensures { λ _. ⌜ Swept (now (highs .entry)) (now (highs .exit)) base (slicesOf width) (λ j. highOf width j (byteOf width literal j)) ⌝ }
-{
-    let slices = codes::slices_of(width);
-    let mut j = 0;
-    while j < slices {
         highs[base + j] = high_of(width, literal, j);
         j = j + 1;
     }
@@ -334,10 +321,10 @@ fn scan_segment(
         if closed {
             break 'slices;
         }
-        rule_all(tests, count, &standings, &mut inside, n);
+        take_out_all(false, tests, count, &standings, &mut inside, n);
         j = j + 1;
     }
-    last_all(tests, count, &standings, &mut inside, n);
+    take_out_all(true, tests, count, &standings, &mut inside, n);
     Segment {
         found: inside,
         counts,

@@ -63,26 +63,16 @@ mul-slices c = omega arith
 array-write-slices : tie.Need-array-write-slices Inv-loop μ-loop
 array-write-slices c = omega arith
 
-mul-plan-lows : tie.Need-mul-plan-lows Inv-loop μ-loop
-mul-plan-lows c = omega arith
+mul-plan-bytes : tie.Need-mul-plan-bytes Inv-loop μ-loop
+mul-plan-bytes c = omega arith
 
-plan-lows-requires : tie.Need-plan-lows-requires Inv-loop μ-loop
-plan-lows-requires c κs =
-    let width = c .before .before .before .before in
+plan-bytes-requires : tie.Need-plan-bytes-requires Inv-loop μ-loop
+plan-bytes-requires c κs =
+    let width = c .before .before .before .before .before in
     let turn = width .before .before in
     let start = turn .before .before .before in
-    (literal-here (c .before .before .before), omega (arith, start .pre .few, turn .loop-test .taken), turn .before .loop .inv .2 .2)
-
-mul-plan-highs : tie.Need-mul-plan-highs Inv-loop μ-loop
-mul-plan-highs c = omega arith
-
-plan-highs-requires : tie.Need-plan-highs-requires Inv-loop μ-loop
-plan-highs-requires c κs =
-    let width = c .before .before .before .before .before .before in
-    let turn = width .before .before in
-    let start = turn .before .before .before in
-    let literal = literal-here (c .before .before .before .before .before) in
-    (literal, omega (arith, start .pre .few, turn .loop-test .taken), turn .before .loop .inv .2 .3)
+    let long = turn .before .loop .inv .2 in
+    (literal-here (c .before .before .before .before), omega (arith, start .pre .few, turn .loop-test .taken), long .2, long .3)
 
 add-t : tie.Need-add-t Inv-loop μ-loop
 add-t c = omega arith
@@ -92,8 +82,7 @@ loop-less c = omega arith
 
 loop-again : tie.Need-loop-again Inv-loop μ-loop
 loop-again c =
-    let lows = c .before .before in
-    let slices = lows .before .before in
+    let slices = c .before .before .before in
     let literal = slices .before .before in
     let width = literal .before in
     let turn = width .before .before in
@@ -104,13 +93,13 @@ loop-again c =
           (λ u h. narrow _ _ (start .pre .opened) _ (start .pre .columns u (omega (arith, turn .loop-test .taken))) .1)
           (omega (arith, start .pre .few, turn .loop-test .taken)) (omega (arith, start .pre .few, turn .loop-test .taken))
           (slices .before .offset-at .ensures) (slices .slices-of .ensures ∙ ap slicesOf (width .width-at .ensures))
-          (rw (width .width-at .ensures, literal .literal-of .ensures) at (lows .plan-lows .ensures))
-          (rw (width .width-at .ensures, literal .literal-of .ensures) at (c .plan-highs .ensures)),
+          (rw (width .width-at .ensures, literal .literal-of .ensures) at (c .plan-bytes .ensures .0))
+          (rw (width .width-at .ensures, literal .literal-of .ensures) at (c .plan-bytes .ensures .1)),
       (
         rw length-set (long .0),
         rw length-set (long .1),
-        lows .plan-lows .ensures .same-length ∙ long .2,
-        c .plan-highs .ensures .same-length ∙ long .3,
+        c .plan-bytes .ensures .0 .same-length ∙ long .2,
+        c .plan-bytes .ensures .1 .same-length ∙ long .3,
       ),
     )
 
@@ -138,10 +127,8 @@ plan-of-spec =
     slices-of-requires
     mul-slices
     array-write-slices
-    mul-plan-lows
-    plan-lows-requires
-    mul-plan-highs
-    plan-highs-requires
+    mul-plan-bytes
+    plan-bytes-requires
     add-t
     loop-less
     loop-again

@@ -296,9 +296,9 @@ tests-again c =
           (c .if1 .came),
     )
 
-rule-all-requires :
-    tie.Need-rule-all-requires Inv-rows μ-rows Inv-tests μ-tests Inv-slices μ-slices
-rule-all-requires c κs = omega arith
+take-out-all-requires :
+    tie.Need-take-out-all-requires Inv-rows μ-rows Inv-tests μ-tests Inv-slices μ-slices
+take-out-all-requires c κs = omega arith
 
 add-j : tie.Need-add-j Inv-rows μ-rows Inv-tests μ-tests Inv-slices μ-slices
 add-j c = omega arith
@@ -310,7 +310,7 @@ slices-again : tie.Need-slices-again Inv-rows μ-rows Inv-tests μ-tests Inv-sli
 slices-again c =
     let tests = c .before .before .before .before .before .tests in
     let entry = c .before .before .before .before .before .before .before .before .before .before in
-    (omega arith, next-slice (fit entry) (omega arith) (tests .inv .1) (c .rule-all .ensures))
+    (omega arith, next-slice (fit entry) (omega arith) (tests .inv .1) (c .take-out-all .ensures))
 
 -- where the loop over the slices is left, by its test or because all tests are closed
 abbrev SlicesLeft : Type 0
@@ -329,9 +329,9 @@ ended c =
     (same-progress (w .4) (w .5) (sym (w .3 .taken)) (w .1 .inv .1)))
     (c .slices-test .came)
 
-last-all-requires :
-    tie.Need-last-all-requires Inv-rows μ-rows Inv-tests μ-tests Inv-slices μ-slices
-last-all-requires c κs =
+take-out-all-requires-2 :
+    tie.Need-take-out-all-requires-2 Inv-rows μ-rows Inv-tests μ-tests Inv-slices μ-slices
+take-out-all-requires-2 c κs =
     let left = c .before .before in
     let pre = entryBefore left .pre .0 in
     (pre .judged .few, pre .short, ended left .reached .all-rows)
@@ -339,7 +339,7 @@ last-all-requires c κs =
 returns : tie.Need-returns Inv-rows μ-rows Inv-tests μ-tests Inv-slices μ-slices
 returns c =
     let left = c .before .before .before in
-    scanned (fit (entryBefore left)) (ended left) (c .last-all .ensures)
+    scanned (fit (entryBefore left)) (ended left) (c .take-out-all2 .ensures)
 
 pub scan-segment-spec : {M : Type 1} → statement M
 scan-segment-spec =
@@ -390,9 +390,9 @@ scan-segment-spec =
     add-t
     tests-less
     tests-again
-    rule-all-requires
+    take-out-all-requires
     add-j
     slices-less
     slices-again
-    last-all-requires
+    take-out-all-requires-2
     returns)
