@@ -7,7 +7,7 @@ ghost use Rattle.codes.specs.Width.{widest, unfitWidth, slicesOf, padOf,
 ghost use Rattle.codes.specs.Bytes.{byteOf, joined};
 
 // The widest column, in bits.
-pub const WIDEST: u8 = 32;
+const WIDEST: u8 = 32;
 
 // Whether a width fits no column.
 pub fn unfit_width(width: u8) -> bool

@@ -8,13 +8,17 @@ const ROWS: usize = 10000;
 fn main() {
     let widths = [12u8, 5, 4, 3];
     let mut codes = [0u64; 40000];
+    // as long as the file
     let mut out = [0u8; 50048];
     print_register(&widths, &mut codes, &mut out);
 }
 
 fn print_register(widths: &[u8], codes: &mut [u64], out: &mut [u8]) {
     fill(codes);
-    print_file(ROWS, widths, codes, out);
+    let Written::Bytes(_) = writer::write(ROWS, widths, codes, out) else {
+        return;
+    };
+    io::write_all(STDOUT_FILENO, out);
 }
 
 // The codes row after row, four a row.
@@ -51,15 +55,4 @@ fn bench_of(row: u64) -> u64 {
 // Six sites, sixteen pickups a crate; one in five is kept back for the next site.
 fn site_of(row: u64) -> u64 {
     (row / 16 + row % 5 / 4) % 6
-}
-
-// Writes the register into `out` and prints its file; a refused one prints nothing.
-fn print_file(rows: usize, widths: &[u8], codes: &[u64], out: &mut [u8]) {
-    let written = writer::write(rows, widths, codes, out);
-    let Written::Bytes(n) = written else {
-        return;
-    };
-    if n <= out.len() {
-        io::write_all(STDOUT_FILENO, &out[..n]);
-    }
 }

@@ -1,2 +1,0 @@
--- The query that is timed.
-pub mod Timed
