@@ -1,7 +1,6 @@
 // Bytes of a long listing, one after the other, of which a lent buffer takes a piece: those at places
 // from a first one on, as many as it has room for. A step is told the place of its first byte and
 // answers the place behind its last.
-ghost use mathlib.Core.Path.{_≡_};
 ghost use Prim.Native.Nat.{_+_, _^_, _≤_, _<_};
 ghost use mathlib.Core.List.{[], _∷_};
 ghost use lib.ListN.{length};

@@ -3,7 +3,7 @@ use Prim.Native.Nat.{ℕ}
 use mathlib.Core.List.{List}
 use mathlib.Core.Bool.{Bool, not}
 use lib.Dec.{ltb, leb, eqb}
-use lib.ListN.{take}
+use lib.ListN.{take, getD}
 use Rattle.query.specs.declared.Comparison.{Comparison}
 use Rattle.query.specs.declared.Comparison.the-variants.{Less, AtMost, More, AtLeast, Equal, Differs}
 use Rattle.query.specs.declared.Test.{Test}
@@ -38,3 +38,7 @@ testsOf query = take (query .count) (query .tests)
 -- a slot that holds no test: column 0, "<", literal 0
 abbrev pub emptySlot : Test
 emptySlot = record { column = 0; comparison = Less 0 }
+
+-- the test in a slot
+abbrev pub testAt : List Test → ℕ → Test
+testAt tests t = getD tests t emptySlot

@@ -27,14 +27,13 @@ use Rattle.register.specs.File.{rowsIn, columnsIn, widthIn}
 use Rattle.register.specs.Opening.{openLines, openedOf}
 use Rattle.query.specs.declared.Test.{Test}
 use Rattle.query.specs.declared.Query.{Query}
-use Rattle.query.specs.Tests.{mostTests, emptySlot, testsOf}
+use Rattle.query.specs.Tests.{mostTests, emptySlot, testsOf, testAt}
 use Rattle.schedule.specs.Schedule.{count}
 use Rattle.schedule.specs.Comparisons.{ColumnTest, comparing}
 use Rattle.scan.specs.declared.Scanned.{Scanned}
 use Rattle.scan.specs.Scanning.{widened, testsIn, bytesIn, segmentsIn}
 use Rattle.scan.specs.Refusals.{unfitSize, testLines, ownLines, scanLines}
 use Rattle.scan.specs.Answers.{slotsOf, accepted, scannedOf}
-use Rattle.scan.specs.Steps.{testAt}
 use Rattle.scan.proofs.Judging.{FitTest, each-test-fits}
 use Rattle.scan.proofs.Planning.{narrow}
 

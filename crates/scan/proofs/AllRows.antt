@@ -19,7 +19,7 @@ use Rattle.basis.proofs.Members.{sum-each-same, sum-mapped}
 use Rattle.basis.proofs.Runs.{within-or-past, in-below, sum-ends, taken-by-number}
 use Rattle.register.specs.File.{rowsIn}
 use Rattle.query.specs.declared.Test.{Test}
-use Rattle.query.specs.Tests.{mostTests, emptySlot}
+use Rattle.query.specs.Tests.{mostTests, emptySlot, testAt}
 use Rattle.schedule.specs.Segments.{segments}
 use Rattle.schedule.specs.Schedule.{count, total, matches}
 use Rattle.schedule.specs.Comparisons.{ColumnTest, comparing}
@@ -27,7 +27,7 @@ use Rattle.scan.specs.declared.Scanned.{Scanned}
 use Rattle.scan.specs.Scanning.{widened, testsIn, bytesIn, segmentsIn}
 use Rattle.scan.specs.Bits.{bitsOf}
 use Rattle.scan.specs.Answers.{slotsOf, accepted, foundBits}
-use Rattle.scan.specs.Steps.{testAt, asked}
+use Rattle.scan.specs.Steps.{asked}
 use Rattle.scan.proofs.Sizes.{Eighths}
 use Rattle.scan.proofs.SegmentSums.{foundIn, counted-in-all}
 use Rattle.scan.proofs.RowsSoFar.{SoFar}

@@ -8,13 +8,12 @@ use mathlib.Core.List.{List, [], _∷_, Memᴰ·map}
 use lib.ListN.{length, getD}
 use Rattle.basis.proofs.Lists.{at-is-member}
 use Rattle.query.specs.declared.Query.{Query}
-use Rattle.query.specs.Tests.{emptySlot, testsOf}
+use Rattle.query.specs.Tests.{emptySlot, testsOf, testAt}
 use Rattle.schedule.specs.Schedule.{count}
 use Rattle.schedule.specs.Comparisons.{comparing}
 use Rattle.schedule.proofs.MoreTests.{alone}
 use Rattle.scan.specs.Scanning.{widened, testsIn, bytesIn, segmentsIn}
 use Rattle.scan.specs.Answers.{scannedOf}
-use Rattle.scan.specs.Steps.{testAt}
 use Rattle.scan.proofs.Accepting.{Accepted, counted}
 
 module _ (file : List ℕ) (size : ℕ) (query single : Query) (room room′ : ℕ)

@@ -13,10 +13,10 @@ use Rattle.basis.specs.Lists.{any, all, below}
 use Rattle.basis.proofs.Members.{_∈_, any-mapped, all-mapped}
 use Rattle.basis.proofs.Runs.{in-below, below-holds, taken-by-number}
 use Rattle.query.specs.declared.Test.{Test}
-use Rattle.query.specs.Tests.{emptySlot}
+use Rattle.query.specs.Tests.{emptySlot, testAt}
 use Rattle.schedule.specs.Comparisons.{ColumnTest}
 use Rattle.scan.specs.Scanning.{widened, testsIn}
-use Rattle.scan.specs.Steps.{testAt, asked}
+use Rattle.scan.specs.Steps.{asked}
 
 module _ (file : List ℕ) (tests : List Test) (count : ℕ) (there : count ≤ length tests) where
   -- slot after slot

@@ -10,13 +10,12 @@ use Rattle.basis.proofs.Members.{_∈_}
 use Rattle.codes.specs.Width.{slicesOf}
 use Rattle.register.specs.File.{rowsIn, widthIn}
 use Rattle.query.specs.declared.Query.{Query}
-use Rattle.query.specs.Tests.{emptySlot, testsOf}
+use Rattle.query.specs.Tests.{emptySlot, testsOf, testAt}
 use Rattle.schedule.specs.Comparisons.{ColumnTest, comparing}
 use Rattle.schedule.proofs.Bounds as schedule
 use Rattle.schedule.proofs.Six.{comparing-lawful}
 use Rattle.scan.specs.Scanning.{widened, testsIn, bytesIn}
 use Rattle.scan.specs.Answers.{scannedOf}
-use Rattle.scan.specs.Steps.{testAt}
 use Rattle.scan.proofs.Accepting.{Accepted, right-size, sliced, counted}
 
 module _ (file : List ℕ) (size : ℕ) (query : Query) (room : ℕ) (yes : Accepted file size query room) (t : ℕ)

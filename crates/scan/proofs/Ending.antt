@@ -21,10 +21,13 @@ use Rattle.schedule.specs.Schedule.{standing, counts, found}
 use Rattle.schedule.specs.Comparisons.{ruledOutWhen, trueWhen, comparing}
 use Rattle.schedule.proofs.EarlyEnd.{NoneCounts, counted-so-far, found-so-far}
 use Rattle.schedule.proofs.Six.{comparing-lawful}
-use Rattle.scan.specs.Standings.{kept, leftRow, failsKept}
+use Rattle.standings.specs.Standings.{kept, leftRow, failsKept}
 use Rattle.scan.specs.Scanning.{bytesIn}
-use Rattle.scan.specs.Steps.{Swept, SegmentScanned, testAt, takenOutByAll}
-use Rattle.scan.proofs.FrontSweeps.{swept-from-front}
+use Rattle.query.specs.Tests.{testAt}
+use Rattle.standings.specs.Sweeps.{Swept}
+use Rattle.standings.specs.TakenOut.{takenOutByAll}
+use Rattle.scan.specs.Steps.{SegmentScanned}
+use Rattle.standings.proofs.FrontSweeps.{swept-from-front}
 use Rattle.scan.proofs.Kept.{kept-fails}
 use Rattle.scan.proofs.ByNumber.{asked-has-slot, slot-is-asked, all-by-number}
 use Rattle.scan.proofs.Work as work

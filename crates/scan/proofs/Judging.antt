@@ -29,10 +29,10 @@ use Rattle.register.specs.File.{columnsIn, widthIn}
 use Rattle.register.specs.Opening.{openedOf}
 use Rattle.register.proofs.Fit.{opened-is-fit}
 use Rattle.query.specs.declared.Test.{Test}
-use Rattle.query.specs.Tests.{mostTests, literalOf, emptySlot}
+use Rattle.query.specs.Tests.{mostTests, literalOf, emptySlot, testAt}
 use Rattle.scan.specs.declared.Verdict.the-variants.{Fit, Unfit}
 use Rattle.scan.specs.Refusals.{testLines}
-use Rattle.scan.specs.Steps.{testAt, Judged}
+use Rattle.scan.specs.Steps.{Judged}
 
 pub test-lines-joined : (file : List ℕ) (place : ℕ) (xs ys : List Test) →
     testLines file place (xs ++ ys) ≡ testLines file place xs ++ testLines file (place + length xs) ys

@@ -11,7 +11,7 @@ use Rattle.codes.specs.Order.{andThen, against}
 use Rattle.query.specs.declared.Comparison.{Comparison}
 use Rattle.query.specs.declared.Comparison.the-variants.{Less, AtMost, More, AtLeast, Equal, Differs}
 use Rattle.schedule.specs.Comparisons.{equal, ruledOutWhen, trueWhen}
-use Rattle.scan.specs.Standings.{kept, steppedRow, rulesOutKept, failsKept}
+use Rattle.standings.specs.Standings.{kept, steppedRow, rulesOutKept, failsKept}
 
 -- what is so of each standing
 of-each : (P : Ordering → Type 0) → P Ordering·lt → P Ordering·eq → P Ordering·gt → (s : Ordering) → P s

@@ -1,7 +1,4 @@
 -- The laws of the scan.
-pub mod Sweeps
-pub mod FrontSweeps
-pub mod TakenOut
 pub mod Kept
 pub mod ByNumber
 pub mod Work

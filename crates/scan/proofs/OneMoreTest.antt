@@ -15,7 +15,7 @@ use Rattle.basis.proofs.Members.{sum-each-at-most}
 use Rattle.register.specs.File.{rowsIn}
 use Rattle.query.specs.declared.Test.{Test}
 use Rattle.query.specs.declared.Query.{Query}
-use Rattle.query.specs.Tests.{emptySlot, testsOf}
+use Rattle.query.specs.Tests.{emptySlot, testsOf, testAt}
 use Rattle.schedule.specs.Schedule.{count, found, matches}
 use Rattle.schedule.specs.Comparisons.{comparing}
 use Rattle.schedule.proofs.Adding.{adds-no-more}
@@ -23,7 +23,6 @@ use Rattle.schedule.proofs.MoreTests.{more-tests-find-no-more, one-more-test}
 use Rattle.scan.specs.Scanning.{widened, testsIn, bytesIn, segmentsIn}
 use Rattle.scan.specs.Bits.{bitIn}
 use Rattle.scan.specs.Answers.{accepted, scannedOf, leftIn}
-use Rattle.scan.specs.Steps.{testAt}
 use Rattle.scan.proofs.LeftBits.{bit-left}
 use Rattle.scan.proofs.Accepting.{Accepted, reply, counted}
 

@@ -19,7 +19,7 @@ use Rattle.basis.proofs.Runs.{in-run, run-holds, in-below, below-holds}
 use Rattle.codes.specs.Width.{slicesOf}
 use Rattle.schedule.specs.Schedule.{keepsOpen, counts}
 use Rattle.schedule.specs.Comparisons.{equal, comparing}
-use Rattle.scan.specs.Standings.{openRow}
+use Rattle.standings.specs.Standings.{openRow}
 use Rattle.scan.specs.Scanning.{bytesIn}
 use Rattle.scan.proofs.Kept.{kept-equal}
 use Rattle.scan.proofs.Work.{Work, testOf, queryOf, rowsOf, standingTo, isOut, takes}

@@ -20,7 +20,8 @@ use Rattle.register.proofs.Fit.{Fit, opened-is-fit}
 use Rattle.register.proofs.Directory.{FitColumn, fit-column}
 use Rattle.register.proofs.Body.{in-the-file}
 use Rattle.query.specs.declared.Test.{Test}
-use Rattle.scan.specs.Steps.{SegmentFit, testAt}
+use Rattle.query.specs.Tests.{testAt}
+use Rattle.scan.specs.Steps.{SegmentFit}
 use Rattle.scan.proofs.Work.{FitWork}
 
 -- a literal that is not too large is below 2^width

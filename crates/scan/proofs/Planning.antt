@@ -24,8 +24,9 @@ use Rattle.register.specs.Opening.{openedOf}
 use Rattle.register.proofs.Fit.{opened-is-fit}
 use Rattle.register.proofs.Directory.{fit-column}
 use Rattle.query.specs.declared.Test.{Test}
-use Rattle.query.specs.Tests.{literalOf}
-use Rattle.scan.specs.Steps.{Swept, testAt, Judged, FitLiteral, Planned}
+use Rattle.query.specs.Tests.{literalOf, testAt}
+use Rattle.standings.specs.Sweeps.{Swept}
+use Rattle.scan.specs.Steps.{Judged, FitLiteral, Planned}
 
 pub narrow : (file : List ℕ) (shape : Shape) → openedOf file ≡ Register shape → (column : ℕ) → column < shape .columns →
     (0 < widthIn file column) × (widthIn file column ≤ widest)

@@ -22,9 +22,11 @@ use Rattle.basis.proofs.Truth.{either}
 use Rattle.basis.proofs.Members.{any-each-same}
 use Rattle.basis.proofs.Runs.{in-below}
 use Rattle.schedule.specs.Comparisons.{ruledOutWhen}
-use Rattle.scan.specs.Standings.{kept, leftRow, rulesOutKept}
-use Rattle.scan.specs.Steps.{Swept, testAt, takenOutByAll}
-use Rattle.scan.proofs.FrontSweeps.{swept-from-front, all-zero}
+use Rattle.standings.specs.Standings.{kept, leftRow, rulesOutKept}
+use Rattle.query.specs.Tests.{testAt}
+use Rattle.standings.specs.Sweeps.{Swept}
+use Rattle.standings.specs.TakenOut.{takenOutByAll}
+use Rattle.standings.proofs.FrontSweeps.{swept-from-front, all-zero}
 use Rattle.scan.proofs.Kept.{kept-rules-out}
 use Rattle.scan.proofs.Work as work
 use Rattle.scan.proofs.Work.{Work, FitWork, standingTo, isOut, takes, countedTo}

@@ -15,14 +15,13 @@ use Rattle.basis.proofs.Members.{Reordered}
 use Rattle.register.specs.File.{rowsIn}
 use Rattle.query.specs.declared.Test.{Test}
 use Rattle.query.specs.declared.Query.{Query}
-use Rattle.query.specs.Tests.{testsOf}
+use Rattle.query.specs.Tests.{testsOf, testAt}
 use Rattle.schedule.specs.Schedule.{count, found}
 use Rattle.schedule.specs.Comparisons.{comparing}
 use Rattle.schedule.proofs.Reordered.{reordered-count, reordered-found, reordered-total, reordered-matches}
 use Rattle.scan.specs.declared.Scanned.{Scanned}
 use Rattle.scan.specs.Scanning.{widened, testsIn, bytesIn, segmentsIn}
 use Rattle.scan.specs.Answers.{accepted, foundBits, scannedOf, leftIn}
-use Rattle.scan.specs.Steps.{testAt}
 use Rattle.scan.proofs.Packed.{bits-same}
 use Rattle.scan.proofs.LeftBits.{left-is}
 use Rattle.scan.proofs.Accepting.{Accepted, reply, counted}

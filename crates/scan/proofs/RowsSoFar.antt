@@ -18,15 +18,16 @@ use Rattle.basis.proofs.Members.{sum-each-same}
 use Rattle.basis.proofs.Runs.{within-or-past, in-below}
 use Rattle.basis.proofs.Buffers.{Filled, filled-nothing, filled-more}
 use Rattle.query.specs.declared.Test.{Test}
-use Rattle.query.specs.Tests.{mostTests}
+use Rattle.query.specs.Tests.{mostTests, testAt}
 use Rattle.schedule.specs.Schedule.{countIn}
 use Rattle.schedule.specs.Comparisons.{comparing}
 use Rattle.schedule.proofs.Numbered.{segment-is-run}
 use Rattle.scan.specs.declared.Segment.{Segment}
 use Rattle.scan.specs.Scanning.{widened, testsIn, bytesIn}
 use Rattle.scan.specs.Bits.{bytesFor, bitsOf}
-use Rattle.scan.specs.Steps.{Swept, SegmentScanned, testAt, asked}
-use Rattle.scan.proofs.FrontSweeps.{all-zero}
+use Rattle.standings.specs.Sweeps.{Swept}
+use Rattle.scan.specs.Steps.{SegmentScanned, asked}
+use Rattle.standings.proofs.FrontSweeps.{all-zero}
 use Rattle.scan.proofs.Packed.{bits-same, bits-joined, length-bits}
 use Rattle.scan.proofs.Sizes.{Eighths, starts-on-a-byte}
 use Rattle.scan.proofs.SegmentSums.{foundIn, countedIn}

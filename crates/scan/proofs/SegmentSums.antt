@@ -26,7 +26,8 @@ use Rattle.schedule.proofs.InOneSegment.{counts-at-most}
 use Rattle.schedule.proofs.Bounds.{count-at-most-rows-times-slices}
 use Rattle.schedule.proofs.BySegment.{count-by-segment}
 use Rattle.scan.specs.Scanning.{widened, testsIn, bytesIn}
-use Rattle.scan.specs.Steps.{testAt, asked}
+use Rattle.query.specs.Tests.{testAt}
+use Rattle.scan.specs.Steps.{asked}
 
 -- a row is found by the tests in the first slots
 abbrev pub foundIn : List ℕ → List Test → ℕ → ℕ → Bool

@@ -13,9 +13,9 @@ use Rattle.codes.specs.Pad.{highOf}
 use Rattle.register.specs.File.{widthIn}
 use Rattle.register.specs.Cells.{byteAt}
 use Rattle.query.specs.declared.Test.{Test}
-use Rattle.query.specs.Tests.{literalOf}
-use Rattle.scan.specs.Standings.{kept, steppedRow}
-use Rattle.scan.specs.Steps.{SegmentFit, Planned, testAt}
+use Rattle.query.specs.Tests.{literalOf, testAt}
+use Rattle.standings.specs.Standings.{kept, steppedRow}
+use Rattle.scan.specs.Steps.{SegmentFit, Planned}
 use Rattle.scan.proofs.Kept.{kept-stepped}
 use Rattle.scan.proofs.Work.{Work, standingTo, stands-next}
 use Rattle.scan.proofs.Parts.{segment-fits, part-within, part-byte}

@@ -19,10 +19,10 @@ use Rattle.codes.specs.Width.{widest}
 use Rattle.register.specs.File.{widthIn}
 use Rattle.register.specs.Limits.{mostRows}
 use Rattle.query.specs.declared.Test.{Test}
-use Rattle.query.specs.Tests.{mostTests}
+use Rattle.query.specs.Tests.{mostTests, testAt}
 use Rattle.scan.specs.declared.Segment.{Segment}
 use Rattle.scan.specs.Bits.{bytesFor}
-use Rattle.scan.specs.Steps.{SegmentScanned, FoundRows, testAt}
+use Rattle.scan.specs.Steps.{SegmentScanned, FoundRows}
 use Rattle.scan.proofs.Sizes.{Eighths}
 use Rattle.scan.proofs.SegmentSums.{foundIn, countedIn, few-counted}
 use Rattle.scan.proofs.RowsSoFar.{SoFar, on-a-byte, next-counted}

@@ -28,7 +28,7 @@ use Rattle.codes.specs.Order.{andThen, against}
 use Rattle.codes.proofs.Width.{some-slice}
 use Rattle.codes.proofs.LowHigh.{cleared-is-against}
 use Rattle.query.specs.declared.Test.{Test}
-use Rattle.query.specs.Tests.{literalOf}
+use Rattle.query.specs.Tests.{literalOf, testAt}
 use Rattle.schedule.specs.Schedule.{standing, ruledOut, counts}
 use Rattle.schedule.specs.Comparisons.{ColumnTest, ruledOutWhen, comparing}
 use Rattle.schedule.proofs.Adding.{adds-at-most}
@@ -37,7 +37,7 @@ use Rattle.schedule.proofs.Earlier.{counts-only-within}
 use Rattle.schedule.proofs.Unread.{unread-stays}
 use Rattle.schedule.proofs.Six.{comparing-lawful}
 use Rattle.scan.specs.Scanning.{widened, testsIn, bytesIn}
-use Rattle.scan.specs.Steps.{testAt, asked}
+use Rattle.scan.specs.Steps.{asked}
 use Rattle.scan.proofs.ByNumber.{any-by-number, asked-has-slot}
 
 -- n rows of a file from the first on, and the first count tests

@@ -3,5 +3,4 @@ pub mod Scanning
 pub mod Bits
 pub mod Refusals
 pub mod Answers
-pub mod Standings
 pub mod Steps

@@ -2,11 +2,10 @@
 use Prim.Native.Nat.{ℕ, _+_, _*_, _^_, _≤_, _<_}
 use mathlib.Core.Path.{_≡_}
 use mathlib.Core.List.{List}
-use mathlib.Core.Bool.{Bool, false, cond}
+use mathlib.Core.Bool.{false, cond}
 use mathlib.Core.Option.{Option, none, some}
-use lib.Dec.{eqb}
 use lib.ListN.{length, getD}
-use Rattle.basis.specs.Lists.{any, below, run}
+use Rattle.basis.specs.Lists.{run}
 use Rattle.basis.specs.Refusals.{Line}
 use Rattle.codes.specs.Width.{widest, slicesOf, tooLarge}
 use Rattle.codes.specs.Bytes.{byteOf}
@@ -15,41 +14,15 @@ use Rattle.register.specs.declared.Shape.{Shape}
 use Rattle.register.specs.declared.Opened.the-variants.{Register}
 use Rattle.register.specs.File.{widthIn, offsetIn}
 use Rattle.register.specs.Opening.{openedOf}
-use Rattle.query.specs.declared.Comparison.{Comparison}
 use Rattle.query.specs.declared.Test.{Test}
 use Rattle.query.specs.declared.Query.{Query}
-use Rattle.query.specs.Tests.{mostTests, literalOf, emptySlot}
+use Rattle.query.specs.Tests.{mostTests, literalOf, testAt}
 use Rattle.schedule.specs.Schedule.{countIn, found}
 use Rattle.schedule.specs.Comparisons.{comparing}
 use Rattle.scan.specs.declared.Verdict.{Verdict}
 use Rattle.scan.specs.declared.Verdict.the-variants.{Fit, Unfit}
 use Rattle.scan.specs.declared.Segment.{Segment}
 use Rattle.scan.specs.Scanning.{widened, testsIn, bytesIn}
-use Rattle.scan.specs.Standings.{leftRow}
-
--- a sweep: n elements from a base on are f 0, f 1, .., and the others are as they were
-pub record Swept (old new : List ℕ) (base n : ℕ) (f : ℕ → ℕ) : Type 0 where
-  pub same-length : length new ≡ length old
-  pub inside : (k : ℕ) → k < n → getD new (base + k) 0 ≡ f k
-  pub before : (k : ℕ) → k < base → getD new k 0 ≡ getD old k 0
-  pub behind : (k : ℕ) → base + n ≤ k → getD new k 0 ≡ getD old k 0
-
--- the test in a slot
-abbrev pub testAt : List Test → ℕ → Test
-testAt tests t = getD tests t emptySlot
-
--- a row whose standing is the bad one is taken out
-abbrev pub takenOutBy : ℕ → ℕ → ℕ → ℕ
-takenOutBy standing bad in-still = leftRow (eqb standing bad) in-still
-
--- the rows that one test takes out, by its standings from a base on
-abbrev pub takenOut : (Comparison → ℕ → Bool) → Comparison → List ℕ → ℕ → List ℕ → ℕ → ℕ
-takenOut rule comparison standings base in-still k = leftRow (rule comparison (getD standings (base + k) 0)) (getD in-still k 0)
-
--- the rows that the first tests take out; the standings to test t are kept from 64 x t on
-abbrev pub takenOutByAll : (Comparison → ℕ → Bool) → List Test → ℕ → List ℕ → List ℕ → ℕ → ℕ
-takenOutByAll rule tests count standings in-still k =
-    leftRow (any (λ t. rule (testAt tests t .comparison) (getD standings (t * 64 + k) 0)) (below count)) (getD in-still k 0)
 
 -- a query as it has been judged: the file opened, and every test fits it
 pub record Judged (file : List ℕ) (shape : Shape) (tests : List Test) (count : ℕ) : Type 0 where

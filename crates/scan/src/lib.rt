@@ -1,8 +1,6 @@
 // Scans a register: which rows meet every test of a query, and how many bytes each test needed. Rows
 // go by segments; a segment's slices are taken one after the other, by all tests, until none of them
 // has a row left that the next slice could decide.
-mod standings;
-
 use query::Comparison;
 use query::MOST_TESTS;
 use query::Query;
@@ -15,7 +13,7 @@ use standings::open_row;
 use standings::step;
 use standings::take_out_all;
 ghost use mathlib.Core.Path.{_≡_};
-ghost use Prim.Native.Nat.{ℕ, _+_, _*_, _^_, _≤_, _<_, min};
+ghost use Prim.Native.Nat.{_+_, _*_, _≤_, _<_, min};
 ghost use mathlib.Core.Bool.{false};
 ghost use lib.Dec.{eqb};
 ghost use lib.ListN.{length, getD, take};
@@ -31,8 +29,8 @@ ghost use Rattle.scan.specs.declared.Verdict.the-variants.{Fit};
 ghost use Rattle.scan.specs.Bits.{bytesFor, bitsAt, bitsOf};
 ghost use Rattle.scan.specs.Refusals.{unfitSize, testLines};
 ghost use Rattle.scan.specs.Answers.{refused, accepted, foundBits, scannedOf, leftIn};
-ghost use Rattle.scan.specs.Steps.{Swept, FitLiteral, Judged, Planned, SegmentFit, SegmentScanned, FoundRows};
-ghost use Rattle.scan.specs.Steps.{Small, SmallSums, asked, verdictOf};
+ghost use Rattle.standings.specs.Sweeps.{Swept};
+ghost use Rattle.scan.specs.Steps.{FitLiteral, Judged, Planned, SegmentFit, SegmentScanned, FoundRows, Small, SmallSums, asked, verdictOf};
 
 // The reply to a scan: how many rows match, a count of bytes for each test (0 after the last) and
 // their total; or the refusal, and then 0 in all of these.

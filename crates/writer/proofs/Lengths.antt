@@ -20,8 +20,7 @@ use Rattle.basis.proofs.Lists.{length-run, length-flatten, sum-of-same, sum-sca
 use Rattle.basis.proofs.Numbers.{length-toLittle}
 use Rattle.codes.specs.Width.{slicesOf}
 use Rattle.register.specs.Layout.{slicesBefore, bytesBefore}
-use Rattle.writer.specs.Layout.{widthOf, sliceOf, columnOf, bodyOf, entryWith, directoryOf}
-use Rattle.writer.specs.Layout.{trailerWith, trailerOf, fileLength, fileOf}
+use Rattle.writer.specs.Layout.{widthOf, sliceOf, columnOf, bodyOf, entryWith, directoryOf, trailerWith, trailerOf, fileLength, fileOf}
 
 module _ (rows : ℕ) (widths codes : List ℕ) where
   pub length-sliceOf : (column slice : ℕ) → length (sliceOf rows widths codes column slice) ≡ rows

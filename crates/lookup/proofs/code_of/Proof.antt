@@ -3,11 +3,10 @@
 use Prim.Native.Nat.{ℕ, _≤_, _<_}
 use native.Mathlib.Omega.{arith}
 use mathlib.Core.Path.{_≡_, sym, ap, _∙_}
-use mathlib.Core.List.{List, map}
+use mathlib.Core.List.{map}
 use borrow.Author.Needs.{needs}
 use lib.ListN.{length, getD}
 use Rattle.basis.specs.Lists.{below}
-use Rattle.codes.specs.Width.{widest, slicesOf}
 use Rattle.codes.specs.Bytes.{joined}
 use Rattle.codes.proofs.Width.{some-slice, slices-at-most-four}
 use Rattle.lookup.specs.Steps.{place, gathered}

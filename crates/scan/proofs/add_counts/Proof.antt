@@ -3,9 +3,9 @@ use Prim.Native.Nat.{_+_, _-_, _≤_}
 use native.Mathlib.Omega.{arith}
 use mathlib.Core.Path.{_≡_}
 use lib.ListN.{getD}
-use Rattle.scan.specs.Steps.{Swept}
-use Rattle.scan.proofs.FrontSweeps.{swept-next}
-use Rattle.scan.proofs.Sweeps.{swept-nothing}
+use Rattle.standings.specs.Sweeps.{Swept}
+use Rattle.standings.proofs.FrontSweeps.{swept-next}
+use Rattle.standings.proofs.Sweeps.{swept-nothing}
 use Rattle.scan.proofs.add_counts.Statement.{statement}
 use Rattle.scan.proofs.add_counts.Tie as tie
 

@@ -9,8 +9,8 @@ use Rattle.codes.specs.Width.{tooLarge}
 use Rattle.register.specs.declared.Shape.{Shape}
 use Rattle.register.specs.File.{columnsIn, widthIn}
 use Rattle.register.proofs.Fit.{opened-is-fit}
-use Rattle.query.specs.Tests.{literalOf}
-use Rattle.scan.specs.Steps.{testAt, verdictOf}
+use Rattle.query.specs.Tests.{literalOf, testAt}
+use Rattle.scan.specs.Steps.{verdictOf}
 use Rattle.scan.specs.Refusals.{testLines}
 use Rattle.scan.proofs.Planning.{narrow}
 use Rattle.scan.proofs.Judging as judging

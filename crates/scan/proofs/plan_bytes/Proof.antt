@@ -7,8 +7,8 @@ use Rattle.codes.specs.Width.{slicesOf}
 use Rattle.codes.specs.Bytes.{byteOf}
 use Rattle.codes.specs.Pad.{highOf}
 use Rattle.codes.proofs.Width.{slices-at-most-four}
-use Rattle.scan.specs.Steps.{Swept}
-use Rattle.scan.proofs.Sweeps.{swept-nothing, swept-one-more}
+use Rattle.standings.specs.Sweeps.{Swept}
+use Rattle.standings.proofs.Sweeps.{swept-nothing, swept-one-more}
 use Rattle.scan.proofs.plan_bytes.Statement.{statement}
 use Rattle.scan.proofs.plan_bytes.Tie as tie
 

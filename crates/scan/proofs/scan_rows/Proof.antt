@@ -10,7 +10,7 @@ use Rattle.register.specs.declared.Shape.{Shape}
 use Rattle.register.specs.Limits.{mostRows}
 use Rattle.register.specs.File.{rowsIn, widthIn}
 use Rattle.register.proofs.Fit.{opened-is-fit}
-use Rattle.scan.specs.Steps.{testAt}
+use Rattle.query.specs.Tests.{testAt}
 use Rattle.scan.proofs.WithinBounds.{found-rows, ones-at-most, counts-small, sums-small, matches-at-most, room-for-segment}
 use Rattle.scan.proofs.Planning.{narrow}
 use Rattle.scan.proofs.Sizes.{Eighths, in-eighths}

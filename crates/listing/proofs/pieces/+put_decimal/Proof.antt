@@ -1,13 +1,12 @@
 -- `listing::pieces::put_decimal` meets its contract: one digit, or the decimal of the tenth and then the last digit; the tenth is
 -- less. Assumes nothing.
-use Prim.Native.Nat.{_+_}
+use Prim.Native.Nat.{_+_, ℕ, _<_}
 use native.Mathlib.Omega.{arith}
 use mathlib.Core.Path.{ap}
 use lib.ListN.{length}
 use borrow.Author.Needs.{needs}
 use Rattle.listing.proofs.Numbers.{short-decimal, digit-decimal, longer-decimal}
 use Rattle.listing.proofs.Writing.{written-then}
-use Prim.Native.Nat.{ℕ, _<_}
 use borrow.Fn.Kinds.{In}
 use borrow.Fn.PlainCycle.{Measures, is, falls, and}
 use Rattle.listing.proofs.pieces.put_decimal.Reads as put-decimal
