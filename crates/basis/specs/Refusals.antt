@@ -1,7 +1,7 @@
 -- A call's refusals as a table in the order in which they are tried: the first line whose condition holds answers.
 -- Assumes nothing.
 use Prim.Native.Nat.{ℕ}
-use mathlib.Core.List.{List, [], _∷_}
+use mathlib.Core.List.{List, [], _∷_, map}
 use mathlib.Core.Bool.{Bool, cond}
 use mathlib.Core.Option.{Option, none, some}
 
@@ -33,3 +33,8 @@ firstLine (line ∷ lines) = cond (line .holds) (some line) (firstLine lines)
 abbrev pub answerBy : {A : Type 0} → (Line → A) → A → Option Line → A
 answerBy refused accepted none = accepted
 answerBy refused accepted (some line) = refused line
+
+-- what is shown of it, in numbers: 0 thrice and the values, or the line's number, place and need, and 0 for each value
+abbrev pub shownBy : List ℕ → Option Line → List ℕ
+shownBy values none = 0 ∷ 0 ∷ 0 ∷ values
+shownBy values (some line) = line .number ∷ line .place ∷ line .need ∷ map (λ value. 0) values

@@ -1,32 +1,12 @@
--- Replies as arrays of numbers: number, place and need first, then the values. Assumes nothing.
+-- The replies of reading and scanning as arrays of numbers: number, place and need first, then the values. Assumes nothing.
 use Prim.Native.Nat.{ℕ}
 use mathlib.Core.List.{List, [], _∷_, map, flatten}
-use Rattle.register.specs.Answers as register
-use Rattle.writer.specs.Answers as writer
-use Rattle.lookup.specs.Answers as lookup
-use Rattle.rows.specs.Answers as rows
 use Rattle.query.specs.declared.Comparison.{Comparison}
 use Rattle.query.specs.declared.Comparison.the-variants.{Less, AtMost, More, AtLeast, Equal, Differs}
 use Rattle.query.specs.declared.Test.{Test}
 use Rattle.query.specs.Tests.{literalOf}
 use Rattle.text.specs.declared.Asked.{Asked}
 use Rattle.scan.specs.declared.Scanned.{Scanned}
-
--- opening: rows, columns
-abbrev pub openReply : register.Shown → List ℕ
-openReply shown = shown .number ∷ shown .place ∷ shown .need ∷ shown .rows ∷ shown .columns ∷ []
-
--- writing: the bytes written
-abbrev pub writeReply : writer.Shown → List ℕ
-writeReply shown = shown .number ∷ shown .place ∷ shown .need ∷ shown .bytes ∷ []
-
--- looking up: the codes written
-abbrev pub lookUpReply : lookup.Shown → List ℕ
-lookUpReply shown = shown .number ∷ shown .place ∷ shown .need ∷ shown .codes ∷ []
-
--- listing: the rows written
-abbrev pub listReply : rows.Shown → List ℕ
-listReply shown = shown .number ∷ shown .place ∷ shown .need ∷ shown .listed ∷ []
 
 -- comparisons are numbered in the order < <= > >= = !=
 abbrev pub kindOf : Comparison → ℕ

@@ -16,13 +16,12 @@ ghost use Rattle.register.specs.Opening as opening;
 ghost use Rattle.writer.specs.Writing as writing;
 ghost use Rattle.lookup.specs.LookingUp as looking;
 ghost use Rattle.rows.specs.RowList as listing;
-ghost use Rattle.exports.specs.Replies.{openReply, writeReply, lookUpReply, listReply};
 ghost use Rattle.exports.specs.Asked.{ReadReplied, ScanReplied};
 
 // Opens a file. Values: rows, columns.
 #[no_mangle]
 pub extern "C" fn bsl_open(file: &[u8], reply: &mut [u64; 5])
-    ensures { λ _. ⌜ now (reply .exit) ≡ openReply (opening.shownFor (now (file .entry))) ⌝ }
+    ensures { λ _. ⌜ now (reply .exit) ≡ opening.shownFor (now (file .entry)) ⌝ }
 {
     let opened = register::open(file);
     *reply = opened_reply(opened);
@@ -37,7 +36,7 @@ pub extern "C" fn bsl_write(
     out: &mut [u8],
     reply: &mut [u64; 4],
 )
-    ensures reply { λ _. ⌜ now (reply .exit) ≡ writeReply (writing.shownFor rows (now (widths .entry)) (now (codes .entry)) (length (now (out .entry)))) ⌝ }
+    ensures reply { λ _. ⌜ now (reply .exit) ≡ writing.shownFor rows (now (widths .entry)) (now (codes .entry)) (length (now (out .entry))) ⌝ }
     ensures left { λ _. ⌜ now (out .exit) ≡ writing.leftIn rows (now (widths .entry)) (now (codes .entry)) (now (out .entry)) ⌝ }
 {
     let written = writer::write(rows, widths, codes, out);
@@ -80,7 +79,7 @@ pub extern "C" fn bsl_scan(file: &[u8], text: &[u8], out: &mut [u8], reply: &mut
 // Lists the rows whose bit is set. Value: how many.
 #[no_mangle]
 pub extern "C" fn bsl_list(rows: usize, bits: &[u8], out: &mut [u32], reply: &mut [u64; 4])
-    ensures reply { λ _. ⌜ now (reply .exit) ≡ listReply (listing.shownFor rows (now (bits .entry)) (length (now (out .entry)))) ⌝ }
+    ensures reply { λ _. ⌜ now (reply .exit) ≡ listing.shownFor rows (now (bits .entry)) (length (now (out .entry))) ⌝ }
     ensures left { λ _. ⌜ now (out .exit) ≡ listing.leftIn rows (now (bits .entry)) (now (out .entry)) ⌝ }
 {
     let listed = rows::list(rows, bits, out);
@@ -96,7 +95,7 @@ pub extern "C" fn bsl_lookup(
     out: &mut [u64],
     reply: &mut [u64; 4],
 )
-    ensures reply { λ _. ⌜ now (reply .exit) ≡ lookUpReply (looking.shownFor (now (file .entry)) column (now (rows .entry)) (length (now (out .entry)))) ⌝ }
+    ensures reply { λ _. ⌜ now (reply .exit) ≡ looking.shownFor (now (file .entry)) column (now (rows .entry)) (length (now (out .entry))) ⌝ }
     ensures left { λ _. ⌜ now (out .exit) ≡ looking.leftIn (now (file .entry)) column (now (rows .entry)) (now (out .entry)) ⌝ }
 {
     let looked_up = lookup::look_up(file, column, rows, out);

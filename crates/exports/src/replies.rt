@@ -13,10 +13,10 @@ ghost use Rattle.register.specs.Answers as register;
 ghost use Rattle.writer.specs.Answers as writer;
 ghost use Rattle.lookup.specs.Answers as lookup;
 ghost use Rattle.rows.specs.Answers as rows;
-ghost use Rattle.exports.specs.Replies.{openReply, writeReply, lookUpReply, listReply, kindOf, readReply, scanReply};
+ghost use Rattle.exports.specs.Replies.{kindOf, readReply, scanReply};
 
 pub fn opened_reply(opened: Opened) -> [u64; 5]
-    ensures { λ r. ⌜ r ≡ openReply (register.shownOf opened) ⌝ }
+    ensures { λ r. ⌜ r ≡ register.shownOf opened ⌝ }
 {
     match opened {
         Opened::Register(shape) => [0, 0, 0, shape.rows as u64, shape.columns as u64],
@@ -31,7 +31,7 @@ pub fn opened_reply(opened: Opened) -> [u64; 5]
 }
 
 pub fn written_reply(written: Written) -> [u64; 4]
-    ensures { λ r. ⌜ r ≡ writeReply (writer.shownOf written) ⌝ }
+    ensures { λ r. ⌜ r ≡ writer.shownOf written ⌝ }
 {
     match written {
         Written::Bytes(bytes) => [0, 0, 0, bytes as u64],
@@ -40,7 +40,7 @@ pub fn written_reply(written: Written) -> [u64; 4]
 }
 
 pub fn looked_up_reply(looked_up: LookedUp) -> [u64; 4]
-    ensures { λ r. ⌜ r ≡ lookUpReply (lookup.shownOf «looked_up») ⌝ }
+    ensures { λ r. ⌜ r ≡ lookup.shownOf «looked_up» ⌝ }
 {
     match looked_up {
         LookedUp::Codes(codes) => [0, 0, 0, codes as u64],
@@ -49,7 +49,7 @@ pub fn looked_up_reply(looked_up: LookedUp) -> [u64; 4]
 }
 
 pub fn listed_reply(listed: Listed) -> [u64; 4]
-    ensures { λ r. ⌜ r ≡ listReply (rows.shownOf listed) ⌝ }
+    ensures { λ r. ⌜ r ≡ rows.shownOf listed ⌝ }
 {
     match listed {
         Listed::Rows(rows) => [0, 0, 0, rows as u64],

@@ -4,7 +4,7 @@ use mathlib.Core.List.{List, [], _∷_, _++_, map}
 use lib.Dec.{leb, ltb}
 use lib.ListN.{length, getD}
 use Rattle.basis.specs.Places.{firstPlace}
-use Rattle.basis.specs.Refusals.{Line, refuse, refuseAt, refuseFor, firstLine, answerBy}
+use Rattle.basis.specs.Refusals.{Line, refuse, refuseAt, refuseFor, firstLine, answerBy, shownBy}
 use Rattle.basis.specs.Buffers.{laid}
 use Rattle.register.specs.File.{rowsIn, columnsIn}
 use Rattle.register.specs.Cells.{codeAt}
@@ -12,7 +12,6 @@ use Rattle.register.specs.Answers.{refusal}
 use Rattle.register.specs.Opening.{openLines}
 use Rattle.lookup.specs.declared.LookedUp.{LookedUp}
 use Rattle.lookup.specs.declared.LookedUp.the-variants.{Codes, Refused}
-use Rattle.lookup.specs.Answers.{Shown}
 
 -- the lowest index in the list of a row number that is not below the rows
 abbrev pub firstMissing : ℕ → List ℕ → ℕ
@@ -42,10 +41,8 @@ module _ (file : List ℕ) (column : ℕ) (list : List ℕ) (room : ℕ) where
   lookedUpOf = answerBy (λ line. Refused (refusal line)) (Codes (length list)) (firstLine lookUpLines)
 
   -- what is shown, from the same table
-  unfoldable pub shownFor : Shown
-  shownFor =
-      answerBy (λ line. record { number = line .number; place = line .place; need = line .need; codes = 0 })
-      (record { number = 0; place = 0; need = 0; codes = length list }) (firstLine lookUpLines)
+  unfoldable pub shownFor : List ℕ
+  shownFor = shownBy (length list ∷ []) (firstLine lookUpLines)
 
 -- what the output then holds: the codes, and after them what was there before; refused, all that was there before
 unfoldable pub leftIn : List ℕ → ℕ → List ℕ → List ℕ → List ℕ

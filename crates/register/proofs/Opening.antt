@@ -11,11 +11,11 @@
 --   body-elsewhere / accepted                refusal 7, or the rows and columns
 use Prim.Native.Nat.{ℕ, _+_, _*_, _≤_, _<_}
 use mathlib.Core.Path.{_≡_, refl, _∙_}
-use mathlib.Core.List.{List}
+use mathlib.Core.List.{List, [], _∷_}
 use mathlib.Core.Option.{Option, none, some}
 use lib.ListN.{length, drop}
 use borrow.Author.Tests.{lt-ltb, le-ltb, eq-eqb, ne-eqb}
-use Rattle.basis.specs.Refusals.{Line, answerBy, firstLine}
+use Rattle.basis.specs.Refusals.{Line, answerBy, firstLine, shownBy}
 use Rattle.register.specs.declared.Opened.{Opened}
 use Rattle.register.specs.declared.Opened.the-variants.{Register, Refused}
 use Rattle.register.specs.Limits.{mostRows, mostColumns}
@@ -32,7 +32,7 @@ shown-as-answered file = go (firstLine (openLines file))
     accept = Register (record { rows = rowsIn file; columns = columnsIn file })
 
     go : (line : Option Line) → shownOf (answerBy (λ l. Refused (refusal l)) accept line) ≡
-        answerBy (λ l. record { number = l .number; place = l .place; need = l .need; rows = 0; columns = 0 }) (shownOf accept) line
+        shownBy (rowsIn file ∷ columnsIn file ∷ []) line
     go none = refl
     go (some line) = refl
 

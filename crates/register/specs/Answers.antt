@@ -1,5 +1,6 @@
 -- The answer to opening, case by case, and what a bench is shown of it. Assumes nothing.
 use Prim.Native.Nat.{ℕ}
+use mathlib.Core.List.{List, [], _∷_}
 use Rattle.basis.specs.Refusals.{Line}
 use Rattle.register.specs.declared.Refusal.{Refusal}
 use Rattle.register.specs.declared.Opened.{Opened}
@@ -18,16 +19,7 @@ abbrev pub refusalOf : Opened → Refusal
 refusalOf (Register shape) = record { number = 0; place = 0; need = 0 }
 refusalOf (Refused refusal) = refusal
 
--- what is shown: number, place and need, and the values
-pub record Shown : Type 0 where
-  pub number : ℕ
-  pub place : ℕ
-  pub need : ℕ
-  pub rows : ℕ
-  pub columns : ℕ
-
--- an accepted call shows number, place and need 0, and a refused one 0 in every field of the answer
-abbrev pub shownOf : Opened → Shown
-shownOf (Register shape) = record { number = 0; place = 0; need = 0; rows = shape .rows; columns = shape .columns }
-shownOf (Refused refusal) =
-    record { number = refusal .number; place = refusal .place; need = refusal .need; rows = 0; columns = 0 }
+-- what is shown: number, place and need, then rows and columns, each 0 where there is none
+abbrev pub shownOf : Opened → List ℕ
+shownOf (Register shape) = 0 ∷ 0 ∷ 0 ∷ shape .rows ∷ shape .columns ∷ []
+shownOf (Refused refusal) = refusal .number ∷ refusal .place ∷ refusal .need ∷ 0 ∷ 0 ∷ []

@@ -5,13 +5,13 @@ use mathlib.Core.Bool.{not, _||_}
 use lib.Dec.{ltb, eqb}
 use lib.ListN.{length}
 use Rattle.basis.specs.Places.{firstPlace}
-use Rattle.basis.specs.Refusals.{Line, refuse, refuseAt, firstLine, answerBy}
+use Rattle.basis.specs.Refusals.{Line, refuse, refuseAt, firstLine, answerBy, shownBy}
 use Rattle.register.specs.declared.Opened.{Opened}
 use Rattle.register.specs.declared.Opened.the-variants.{Register, Refused}
 use Rattle.register.specs.Limits.{mostRows, mostColumns}
 use Rattle.register.specs.Layout.{bytesBefore}
 use Rattle.register.specs.File.{rowsIn, columnsIn, versionIn, directoryIn, markIn, mark, widthIn, unfitColumn}
-use Rattle.register.specs.Answers.{Shown, refusal}
+use Rattle.register.specs.Answers.{refusal}
 
 -- the lowest unfit column
 abbrev pub firstUnfit : List ℕ → ℕ
@@ -41,8 +41,6 @@ openedOf file =
     answerBy (λ line. Refused (refusal line)) (Register (record { rows = rowsIn file; columns = columnsIn file }))
     (firstLine (openLines file))
 
--- what is shown, from the same table: the line's numbers and no values, or no refusal and the values
-unfoldable pub shownFor : List ℕ → Shown
-shownFor file =
-    answerBy (λ line. record { number = line .number; place = line .place; need = line .need; rows = 0; columns = 0 })
-    (record { number = 0; place = 0; need = 0; rows = rowsIn file; columns = columnsIn file }) (firstLine (openLines file))
+-- what is shown, from the same table
+unfoldable pub shownFor : List ℕ → List ℕ
+shownFor file = shownBy (rowsIn file ∷ columnsIn file ∷ []) (firstLine (openLines file))

@@ -5,14 +5,13 @@ use mathlib.Core.Bool.{Bool, not, _||_}
 use lib.Dec.{ltb, eqb}
 use lib.ListN.{length}
 use Rattle.basis.specs.Lists.{any, those, run, below}
-use Rattle.basis.specs.Refusals.{Line, refuse, refuseFor, firstLine, answerBy}
+use Rattle.basis.specs.Refusals.{Line, refuse, refuseFor, firstLine, answerBy, shownBy}
 use Rattle.basis.specs.Buffers.{laid}
 use Rattle.register.specs.Limits.{mostRows}
 use Rattle.register.specs.Answers.{refusal}
 use Rattle.scan.specs.Bits.{bytesFor, bitIn}
 use Rattle.rows.specs.declared.Listed.{Listed}
 use Rattle.rows.specs.declared.Listed.the-variants.{Rows, Refused}
-use Rattle.rows.specs.Answers.{Shown}
 
 -- a row's bit is set
 abbrev pub marked : List ℕ → ℕ → Bool
@@ -44,10 +43,8 @@ module _ (rows : ℕ) (bits : List ℕ) (room : ℕ) where
   listedOf = answerBy (λ line. Refused (refusal line)) (Rows (length (markedBelow rows bits))) (firstLine listLines)
 
   -- what is shown, from the same table
-  unfoldable pub shownFor : Shown
-  shownFor =
-      answerBy (λ line. record { number = line .number; place = line .place; need = line .need; listed = 0 })
-      (record { number = 0; place = 0; need = 0; listed = length (markedBelow rows bits) }) (firstLine listLines)
+  unfoldable pub shownFor : List ℕ
+  shownFor = shownBy (length (markedBelow rows bits) ∷ []) (firstLine listLines)
 
 -- what the output then holds: the rows, and after them what was there before; refused, all that was there before
 unfoldable pub leftIn : ℕ → List ℕ → List ℕ → List ℕ

@@ -11,7 +11,7 @@ use Rattle.query.specs.declared.Test.{Test}
 use Rattle.query.specs.Tests.{mostTests, emptySlot}
 use Rattle.scan.specs.Answers as scans
 use Rattle.rows.specs.RowList as lists
-use Rattle.exports.specs.Replies.{openReply, writeReply, scanReply, listReply}
+use Rattle.exports.specs.Replies.{scanReply}
 
 -- what may be asked; a buffer is lent with what it holds before
 pub data Question : Type 0 where
@@ -29,8 +29,8 @@ asking tests = record { count = length tests; tests = take mostTests (tests ++ r
 abbrev pub answer : Question → List ℕ
 answer (joining width bytes) = joined width bytes ∷ []
 answer (writing rows widths codes out) =
-    writeReply (writes.shownFor rows widths codes (length out)) ++ writes.leftIn rows widths codes out
-answer (opening file) = openReply (opens.shownFor file)
+    writes.shownFor rows widths codes (length out) ++ writes.leftIn rows widths codes out
+answer (opening file) = opens.shownFor file
 answer (scanning file size tests result) =
     scanReply (scans.scannedOf file size (asking tests) (length result)) ++ scans.leftIn file size (asking tests) result
-answer (listing rows bits out) = listReply (lists.shownFor rows bits (length out)) ++ lists.leftIn rows bits out
+answer (listing rows bits out) = lists.shownFor rows bits (length out) ++ lists.leftIn rows bits out

@@ -12,13 +12,13 @@
 --   too-short / accepted                     refusal 10, or none
 use Prim.Native.Nat.{ℕ, _*_, _≤_, _<_}
 use mathlib.Core.Path.{_≡_, refl, ap, _∙_}
-use mathlib.Core.List.{List}
+use mathlib.Core.List.{List, [], _∷_}
 use mathlib.Core.Bool.{true}
 use mathlib.Core.Option.{Option, none, some}
 use lib.ListN.{length, drop}
 use borrow.Author.Tests.{lt-ltb, le-ltb, eq-eqb, ne-eqb}
 use Rattle.basis.specs.Buffers.{laid}
-use Rattle.basis.specs.Refusals.{Line, refuse, refuseAt, refuseFor, answerBy, firstLine}
+use Rattle.basis.specs.Refusals.{Line, refuse, refuseAt, refuseFor, answerBy, firstLine, shownBy}
 use Rattle.register.specs.Limits.{mostRows, mostColumns}
 use Rattle.register.specs.Answers.{refusal}
 use Rattle.writer.specs.declared.Written.{Written}
@@ -40,7 +40,7 @@ module _ (rows : ℕ) (widths codes : List ℕ) where
       accept = Bytes (fileLength rows widths)
 
       go : (line : Option Line) → shownOf (answerBy (λ l. Refused (refusal l)) accept line) ≡
-          answerBy (λ l. record { number = l .number; place = l .place; need = l .need; bytes = 0 }) (shownOf accept) line
+          shownBy (fileLength rows widths ∷ []) line
       go none = refl
       go (some line) = refl
 

@@ -1,5 +1,6 @@
 -- The answer to writing, case by case, and what a bench is shown of it. Assumes nothing.
 use Prim.Native.Nat.{ℕ}
+use mathlib.Core.List.{List, [], _∷_}
 use Rattle.writer.specs.declared.Written.{Written}
 use Rattle.writer.specs.declared.Written.the-variants.{Bytes, Refused}
 
@@ -7,14 +8,7 @@ use Rattle.writer.specs.declared.Written.the-variants.{Bytes, Refused}
 abbrev pub refusedWith : ℕ → ℕ → ℕ → Written
 refusedWith number place need = Refused (record { number = number; place = place; need = need })
 
--- what is shown: number, place and need, and the bytes written
-pub record Shown : Type 0 where
-  pub number : ℕ
-  pub place : ℕ
-  pub need : ℕ
-  pub bytes : ℕ
-
--- an accepted call shows number, place and need 0, and a refused one 0 bytes
-abbrev pub shownOf : Written → Shown
-shownOf (Bytes bytes) = record { number = 0; place = 0; need = 0; bytes = bytes }
-shownOf (Refused refusal) = record { number = refusal .number; place = refusal .place; need = refusal .need; bytes = 0 }
+-- what is shown: number, place and need, and the value, each 0 where there is none
+abbrev pub shownOf : Written → List ℕ
+shownOf (Bytes bytes) = 0 ∷ 0 ∷ 0 ∷ bytes ∷ []
+shownOf (Refused refusal) = refusal .number ∷ refusal .place ∷ refusal .need ∷ 0 ∷ []

@@ -5,7 +5,7 @@ use mathlib.Core.Bool.{not, _||_}
 use lib.Dec.{ltb, eqb}
 use lib.ListN.{length, getD}
 use Rattle.basis.specs.Places.{firstPlace}
-use Rattle.basis.specs.Refusals.{Line, refuse, refuseAt, refuseFor, firstLine, answerBy}
+use Rattle.basis.specs.Refusals.{Line, refuse, refuseAt, refuseFor, firstLine, answerBy, shownBy}
 use Rattle.basis.specs.Buffers.{laid}
 use Rattle.codes.specs.Width.{unfitWidth, tooLarge}
 use Rattle.register.specs.Limits.{mostRows, mostColumns}
@@ -13,7 +13,6 @@ use Rattle.register.specs.Answers.{refusal}
 use Rattle.writer.specs.declared.Written.{Written}
 use Rattle.writer.specs.declared.Written.the-variants.{Bytes, Refused}
 use Rattle.writer.specs.Layout.{widthOf, fileOf, fileLength}
-use Rattle.writer.specs.Answers.{Shown}
 
 -- the lowest column whose width fits no column
 abbrev pub firstUnfit : List ℕ → ℕ
@@ -46,10 +45,8 @@ module _ (rows : ℕ) (widths codes : List ℕ) (room : ℕ) where
   writtenOf = answerBy (λ line. Refused (refusal line)) (Bytes (fileLength rows widths)) (firstLine writeLines)
 
   -- what is shown, from the same table
-  unfoldable pub shownFor : Shown
-  shownFor =
-      answerBy (λ line. record { number = line .number; place = line .place; need = line .need; bytes = 0 })
-      (record { number = 0; place = 0; need = 0; bytes = fileLength rows widths }) (firstLine writeLines)
+  unfoldable pub shownFor : List ℕ
+  shownFor = shownBy (fileLength rows widths ∷ []) (firstLine writeLines)
 
 -- what the output then holds: the file, and after it what was there before; refused, all that was there before
 unfoldable pub leftIn : ℕ → List ℕ → List ℕ → List ℕ → List ℕ

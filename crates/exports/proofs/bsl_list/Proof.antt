@@ -1,6 +1,5 @@
 -- `exports::bsl_list` meets its contract: the call's own promise, as it is shown. Assumes nothing.
-use mathlib.Core.Path.{ap, _∙_}
-use Rattle.exports.specs.Replies.{listReply}
+use mathlib.Core.Path.{_∙_}
 use borrow.Author.Needs.{needs}
 use Rattle.exports.proofs.bsl_list.Statement.{statement}
 use Rattle.exports.proofs.bsl_list.Tie as tie
@@ -17,7 +16,7 @@ same-length c = search needs
 returns : tie.Need-returns
 returns c =
     let told = c .before .before .before .list .ensures .1 in
-    (c .listed-reply .ensures ∙ ap listReply (told .0), told .1)
+    (c .listed-reply .ensures ∙ told .0, told .1)
 
 pub bsl-list-spec : {M : Type 1} → statement M
 bsl-list-spec = tie.close (tie.spec list-requires listed-reply-requires same-length returns)

@@ -1,6 +1,5 @@
 -- `exports::bsl_lookup` meets its contract: the call's own promise, as it is shown. Assumes nothing.
-use mathlib.Core.Path.{ap, _∙_}
-use Rattle.exports.specs.Replies.{lookUpReply}
+use mathlib.Core.Path.{_∙_}
 use borrow.Author.Needs.{needs}
 use Rattle.exports.proofs.bsl_lookup.Statement.{statement}
 use Rattle.exports.proofs.bsl_lookup.Tie as tie
@@ -17,7 +16,7 @@ same-length c = search needs
 returns : tie.Need-returns
 returns c =
     let told = c .before .before .before .look-up .ensures .1 in
-    (c .looked-up-reply .ensures ∙ ap lookUpReply (told .0), told .1)
+    (c .looked-up-reply .ensures ∙ told .0, told .1)
 
 pub bsl-lookup-spec : {M : Type 1} → statement M
 bsl-lookup-spec =

@@ -1,6 +1,5 @@
 -- `exports::bsl_open` meets its contract: the call's own promise, as it is shown. Assumes nothing.
-use mathlib.Core.Path.{ap, _∙_}
-use Rattle.exports.specs.Replies.{openReply}
+use mathlib.Core.Path.{_∙_}
 use borrow.Author.Needs.{needs}
 use Rattle.exports.proofs.bsl_open.Statement.{statement}
 use Rattle.exports.proofs.bsl_open.Tie as tie
@@ -12,7 +11,7 @@ opened-reply-requires : tie.Need-opened-reply-requires
 opened-reply-requires c κs = search needs
 
 returns : tie.Need-returns
-returns c = c .opened-reply .ensures ∙ ap openReply (c .before .«open» .ensures .1)
+returns c = c .opened-reply .ensures ∙ c .before .«open» .ensures .1
 
 pub bsl-open-spec : {M : Type 1} → statement M
 bsl-open-spec = tie.close (tie.spec open-requires opened-reply-requires returns)

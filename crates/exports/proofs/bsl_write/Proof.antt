@@ -1,6 +1,5 @@
 -- `exports::bsl_write` meets its contract: the call's own promise, as it is shown. Assumes nothing.
-use mathlib.Core.Path.{ap, _∙_}
-use Rattle.exports.specs.Replies.{writeReply}
+use mathlib.Core.Path.{_∙_}
 use borrow.Author.Needs.{needs}
 use Rattle.exports.proofs.bsl_write.Statement.{statement}
 use Rattle.exports.proofs.bsl_write.Tie as tie
@@ -17,7 +16,7 @@ same-length c = search needs
 returns : tie.Need-returns
 returns c =
     let told = c .before .before .before .write .ensures .1 in
-    (c .written-reply .ensures ∙ ap writeReply (told .0), told .1)
+    (c .written-reply .ensures ∙ told .0, told .1)
 
 pub bsl-write-spec : {M : Type 1} → statement M
 bsl-write-spec = tie.close (tie.spec write-requires written-reply-requires same-length returns)
