@@ -35,7 +35,7 @@ module _ {A : Type 0} (buffer : List A) (at : ℕ) where
   pub laid-nothing : laid buffer at [] ≡ buffer
   laid-nothing = rw (add-zero at) (take-append-drop at buffer)
 
-  pub laid-then : (list more : List A) → at + length list ≤ length buffer →
+  laid-then : (list more : List A) → at + length list ≤ length buffer →
       laid (laid buffer at list) (at + length list) more ≡ laid buffer at (list ++ more)
   laid-then list more room =
       let head = take at buffer ++ list in

@@ -31,7 +31,7 @@ pub length-run : (first many : ℕ) → length (run first many) ≡ many
 length-run first zero = refl
 length-run first (suc many) = ap suc (length-run (suc first) many)
 
-pub run-at : (first many i : ℕ) → i < many → getD (run first many) i 0 ≡ first + i
+run-at : (first many i : ℕ) → i < many → getD (run first many) i 0 ≡ first + i
 run-at first zero i h = absurd (omega arith)
 run-at first (suc many) zero h = omega arith
 run-at first (suc many) (suc i) h = omega (arith, run-at (suc first) many i (omega arith))
@@ -50,7 +50,7 @@ below-one-more n =
 pub map-one-more : {B : Type 0} (f : ℕ → B) (n : ℕ) → map f (below (suc n)) ≡ map f (below n) ++ (f n ∷ [])
 map-one-more f n = ap (map f) (below-one-more n) ∙ map-append f (below n) (n ∷ [])
 
-pub flatten-one-more : {A : Type 0} (lists : List (List A)) (list : List A) → flatten (lists ++ (list ∷ [])) ≡ flatten lists ++ list
+flatten-one-more : {A : Type 0} (lists : List (List A)) (list : List A) → flatten (lists ++ (list ∷ [])) ≡ flatten lists ++ list
 unfolding flatten
 flatten-one-more [] list = append-nil list
 flatten-one-more (xs ∷ lists) list = ap (λ rest. xs ++ rest) (flatten-one-more lists list) ∙ sym (append-assoc xs (flatten lists) list)
@@ -133,7 +133,7 @@ sum-continues f n zero = rw add-zero (omega arith)
 sum-continues f n (suc more) =
     rw (add-suc n more, sum-one-more f (n + more), sum-one-more (λ i. f (n + i)) more, sum-continues f n more) (omega arith)
 
-pub sum-onwards : (f : ℕ → ℕ) (first many : ℕ) → sum f (run first many) ≡ sum (λ i. f (first + i)) (below many)
+sum-onwards : (f : ℕ → ℕ) (first many : ℕ) → sum f (run first many) ≡ sum (λ i. f (first + i)) (below many)
 sum-onwards f first zero = refl
 sum-onwards f first (suc many) =
     sum-run f first many

@@ -33,13 +33,13 @@ byte-and-bytes b bytes t =
     let parts = both (ltb b 256) (areBytes bytes) t in
     (ltb→lt b 256 (parts .0), parts .1)
 
-pub toLittle-bytes : (n number : ℕ) → T (areBytes (toLittle n number))
+toLittle-bytes : (n number : ℕ) → T (areBytes (toLittle n number))
 unfolding toLittle
 toLittle-bytes zero number = tt
 toLittle-bytes (suc n) number =
     byte-first (number % 256) (toLittle n (number / 256)) (omega arith) (toLittle-bytes n (number / 256))
 
-pub little-bound : (bytes : List ℕ) → T (areBytes bytes) → little bytes < 256 ^ length bytes
+little-bound : (bytes : List ℕ) → T (areBytes bytes) → little bytes < 256 ^ length bytes
 unfolding little
 little-bound [] h = omega arith
 little-bound (b ∷ bytes) h =

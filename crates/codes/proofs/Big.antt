@@ -19,7 +19,7 @@ use Rattle.basis.proofs.Numbers.{byte-first, byte-and-bytes}
 use Rattle.codes.specs.Bytes.{big, toBig}
 
 -- a power of 256 is not 0
-pub some-power : (n : ℕ) → 0 < 256 ^ n
+some-power : (n : ℕ) → 0 < 256 ^ n
 some-power n = one-le-pow n 256 (lit< tt)
 
 -- one byte more at the end: 256 times the number, and the byte

@@ -56,7 +56,7 @@ pub more-of : (a b : ℕ) → compare a b ≡ Ordering·gt → b < a
 more-of a b e = leb-false a b (ap isLe e)
 
 -- two pairs in the same order have the same answer
-pub compare-alike : (a b c d : ℕ) → (a < b → c < d) → (a ≡ b → c ≡ d) → (b < a → d < c) → compare c d ≡ compare a b
+compare-alike : (a b c d : ℕ) → (a < b → c < d) → (a ≡ b → c ≡ d) → (b < a → d < c) → compare c d ≡ compare a b
 compare-alike a b c d less same more = by (compare a b) refl
   where
     by : (o : Ordering) → compare a b ≡ o → compare c d ≡ o
@@ -65,7 +65,7 @@ compare-alike a b c d less same more = by (compare a b) refl
     by Ordering·gt e = compare-more c d (more (more-of a b e))
 
 -- a common summand changes nothing
-pub compare-shifted : (u a b : ℕ) → compare (u + a) (u + b) ≡ compare a b
+compare-shifted : (u a b : ℕ) → compare (u + a) (u + b) ≡ compare a b
 compare-shifted u a b = compare-alike a b (u + a) (u + b) (omega arith) (omega arith) (omega arith)
 
 -- a common factor that is not 0 changes nothing

@@ -53,7 +53,7 @@ cleared-at width bytes slice h =
     clearedFrom-at width 0 bytes slice h ∙ ap (λ (at : ℕ). clearedByte width at (getD bytes slice 0)) (omega arith)
 
 -- clearing a pad does not raise a byte
-pub clearedByte-below : (width slice b : ℕ) → clearedByte width slice b ≤ b
+clearedByte-below : (width slice b : ℕ) → clearedByte width slice b ≤ b
 unfolding clearedByte
 clearedByte-below width slice b = either (lastSlice width slice)
   where

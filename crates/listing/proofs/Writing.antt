@@ -30,7 +30,7 @@ module _ (buffer : List ℕ) (from at byte : ℕ) where
   unfolding putAt
   put-behind reached full = rw (le-leb from at reached, le-ltb (at - from) (length buffer) full)
 
-  pub length-put : length (putAt buffer from at byte) ≡ length buffer
+  length-put : length (putAt buffer from at byte) ≡ length buffer
   unfolding putAt
   length-put = go (leb from at && ltb (at - from) (length buffer))
     where
@@ -38,7 +38,7 @@ module _ (buffer : List ℕ) (from at byte : ℕ) where
       go true = length-set buffer (at - from) byte
       go false = refl
 
-pub length-write : (buffer : List ℕ) (from at : ℕ) (word : List ℕ) → length (writeAt buffer from at word) ≡ length buffer
+length-write : (buffer : List ℕ) (from at : ℕ) (word : List ℕ) → length (writeAt buffer from at word) ≡ length buffer
 unfolding writeAt
 length-write buffer from at [] = refl
 length-write buffer from at (byte ∷ word) = length-write (putAt buffer from at byte) from (suc at) word ∙ length-put buffer from at byte

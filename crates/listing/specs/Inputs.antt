@@ -9,10 +9,10 @@ use Rattle.listing.specs.Lines.{refusedLine}
 use Rattle.listing.specs.Listing.{Listed}
 
 -- a file of more than 65,536 bytes is not taken, nor a text of more than 4,096
-abbrev pub mostFile : ℕ
+abbrev mostFile : ℕ
 mostFile = 65536
 
-abbrev pub mostText : ℕ
+abbrev mostText : ℕ
 mostText = 4096
 
 -- an input that could not be read, or is over its limit

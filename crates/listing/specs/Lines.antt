@@ -9,31 +9,31 @@ use Rattle.text.specs.Decimals.{decimal}
 use Rattle.text.specs.Lines.{space, lineFeed}
 
 -- "rows ", " matches "
-abbrev pub rowsWord : List ℕ
+abbrev rowsWord : List ℕ
 rowsWord = 114 ∷ 111 ∷ 119 ∷ 115 ∷ space ∷ []
 
-abbrev pub matchesWord : List ℕ
+abbrev matchesWord : List ℕ
 matchesWord = space ∷ 109 ∷ 97 ∷ 116 ∷ 99 ∷ 104 ∷ 101 ∷ 115 ∷ space ∷ []
 
 -- "test ", " read ", " of "
-abbrev pub testWord : List ℕ
+abbrev testWord : List ℕ
 testWord = 116 ∷ 101 ∷ 115 ∷ 116 ∷ space ∷ []
 
-abbrev pub readWord : List ℕ
+abbrev readWord : List ℕ
 readWord = space ∷ 114 ∷ 101 ∷ 97 ∷ 100 ∷ space ∷ []
 
-abbrev pub ofWord : List ℕ
+abbrev ofWord : List ℕ
 ofWord = space ∷ 111 ∷ 102 ∷ space ∷ []
 
 -- "row ", ":"
-abbrev pub rowWord : List ℕ
+abbrev rowWord : List ℕ
 rowWord = 114 ∷ 111 ∷ 119 ∷ space ∷ []
 
-abbrev pub colon : ℕ
+abbrev colon : ℕ
 colon = 58
 
 -- "refused "
-abbrev pub refusedWord : List ℕ
+abbrev refusedWord : List ℕ
 refusedWord = 114 ∷ 101 ∷ 102 ∷ 117 ∷ 115 ∷ 101 ∷ 100 ∷ space ∷ []
 
 -- line 1: rows, matches

@@ -28,7 +28,7 @@ among-all width column columns h =
 
 module _ (file : List ℕ) (fit : Fit file) (column slice row : ℕ) (column-there : column < columnsIn file)
     (slice-there : slice < slicesOf (widthIn file column)) (row-there : row < rowsIn file) where
-  pub in-the-body : offsetIn file column + slice * rowsIn file + row < directoryIn file
+  in-the-body : offsetIn file column + slice * rowsIn file + row < directoryIn file
   in-the-body =
       let rows = rowsIn file in
       let before = slicesBefore (widthIn file) column in

@@ -91,7 +91,7 @@ module _ (file : List ℕ) (size : ℕ) (query : Query) (room : ℕ) (yes : Acce
   pub right-size : 0 < size
   right-size = some-rows size (own .fit-size)
 
-  pub few-tests : length (testsOf query) ≤ mostTests
+  few-tests : length (testsOf query) ≤ mostTests
   few-tests = rw (length-take (query .count) (query .tests)) (omega (arith, own .few))
 
   pub fits : (test : Test) → test ∈ testsOf query → FitTest file test

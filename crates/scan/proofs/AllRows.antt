@@ -57,7 +57,7 @@ slots-are counts numbers sixteen few each rest =
     go t h (inl inside) = each t inside ∙ sym (slot numbers t inside few)
     go t h (inr past) = rest t past ∙ sym (slot-after numbers t past h)
 
-pub sum-of-slots : (f : Test → ℕ) (tests : List Test) (many : ℕ) (counts : List ℕ) → many ≤ length tests → many ≤ 16 →
+sum-of-slots : (f : Test → ℕ) (tests : List Test) (many : ℕ) (counts : List ℕ) → many ≤ length tests → many ≤ 16 →
     ((t : ℕ) → t < many → getD counts t 0 ≡ f (testAt tests t)) → ((t : ℕ) → many ≤ t → getD counts t 0 ≡ 0) →
     sum (λ t. getD counts t 0) (below 16) ≡ sum f (take many tests)
 sum-of-slots f tests many counts there few each rest =

@@ -20,7 +20,7 @@ use Rattle.scan.specs.Steps.{asked}
 
 module _ (file : List ℕ) (tests : List Test) (count : ℕ) (there : count ≤ length tests) where
   -- slot after slot
-  pub query-by-number : testsIn file (asked tests count) ≡ map (λ t. widened file (testAt tests t)) (below count)
+  query-by-number : testsIn file (asked tests count) ≡ map (λ t. widened file (testAt tests t)) (below count)
   query-by-number =
       ap (map (widened file)) (taken-by-number tests count emptySlot there) ∙ map-map (widened file) (testAt tests) (below count)
 

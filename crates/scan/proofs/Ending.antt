@@ -38,7 +38,7 @@ use Rattle.scan.proofs.Progress.{Progress}
 pub record Ended (g : Work) (standings in-rows cs : List ℕ) : Type 0 where
   pub slice : ℕ
   pub reached : Progress g slice 0 standings in-rows cs true
-  pub none-more : NoneCounts comparing (bytesIn (g .file)) (queryOf g) (rowsOf g) slice
+  none-more : NoneCounts comparing (bytesIn (g .file)) (queryOf g) (rowsOf g) slice
 
 -- no slot's test counts a slice, so no test of the query does
 by-slot : (g : Work) → FitWork g → (j : ℕ) → ((t : ℕ) → t < g .count → takes g t j ≡ false) →

@@ -34,7 +34,7 @@ use Rattle.scan.specs.declared.Verdict.the-variants.{Fit, Unfit}
 use Rattle.scan.specs.Refusals.{testLines}
 use Rattle.scan.specs.Steps.{Judged}
 
-pub test-lines-joined : (file : List ℕ) (place : ℕ) (xs ys : List Test) →
+test-lines-joined : (file : List ℕ) (place : ℕ) (xs ys : List Test) →
     testLines file place (xs ++ ys) ≡ testLines file place xs ++ testLines file (place + length xs) ys
 unfolding testLines
 test-lines-joined file place [] ys = ap (λ (p : ℕ). testLines file p ys) (sym (add-zero place))

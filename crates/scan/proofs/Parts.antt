@@ -38,7 +38,7 @@ module _ {file : List ℕ} {rows first n : ℕ} {tests : List Test} {count : ℕ
   known = opened-is-fit file shape (fit .judged .opened)
 
   -- the rows of the file
-  pub rows-are : rows ≡ rowsIn file
+  rows-are : rows ≡ rowsIn file
   rows-are = ap (λ (shape : Shape). shape .rows) (known .1)
 
   -- each test's column is one of the file's

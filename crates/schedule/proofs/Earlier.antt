@@ -26,7 +26,7 @@ module _ {Test : Type 0} (M : Machine Test) (R : Bytes Test) (q : List Test) (t 
       omega arith)
 
   module _ (L : Lawful M) where
-    pub equal-before : (j row : ℕ) → T (M .equal t (standing M R t (suc j) row)) → T (M .equal t (standing M R t j row))
+    equal-before : (j row : ℕ) → T (M .equal t (standing M R t (suc j) row)) → T (M .equal t (standing M R t j row))
     equal-before j row equal = go (passed-or-failed (M .equal t (standing M R t j row)))
       where
         go : T (M .equal t (standing M R t j row)) ⊎ T (not (M .equal t (standing M R t j row))) →
@@ -34,7 +34,7 @@ module _ {Test : Type 0} (M : Machine Test) (R : Bytes Test) (q : List Test) (t 
         go (inl was) = was
         go (inr differs) = rw (settled-next M L R t j row differs) at equal
 
-    pub keeps-open-before : (j row : ℕ) → T (keepsOpen M R q t (suc j) row) → T (keepsOpen M R q t j row)
+    keeps-open-before : (j row : ℕ) → T (keepsOpen M R q t (suc j) row) → T (keepsOpen M R q t j row)
     unfolding keepsOpen
     keeps-open-before j row kept =
         let parts = both (M .equal t (standing M R t (suc j) row)) (not (ruledOut M R q (suc j) row)) kept in

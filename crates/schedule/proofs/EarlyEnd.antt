@@ -33,7 +33,7 @@ module _ {Test : Type 0} (M : Machine Test) (R : Bytes Test) (q : List Test) (ro
 
 module _ {Test : Type 0} (M : Machine Test) (L : Lawful M) (R : Bytes Test) (q : List Test) (rows : List ℕ) where
   -- If no test counts a slice of a segment, none counts a later one.
-  pub none-counts-later : {j k : ℕ} → j ≤ k → NoneCounts M R q rows j → NoneCounts M R q rows k
+  none-counts-later : {j k : ℕ} → j ≤ k → NoneCounts M R q rows j → NoneCounts M R q rows k
   none-counts-later later none t m =
       onwards (λ i. T (not (counts M R q t i rows))) later
       (λ i over. fails-before (counts M R q t _ rows) (counts M R q t i rows) (counts-before M R q t L i rows))
@@ -58,7 +58,7 @@ module _ {Test : Type 0} (M : Machine Test) (L : Lawful M) (R : Bytes Test) (q :
 
     module _ (row : ℕ) (here : row ∈ rows) where
       -- a row that is not ruled out stands to every test as it will at the end,
-      pub settled-so-far : (t : Test) → t ∈ q → T (not (ruledOut M R q j row)) →
+      settled-so-far : (t : Test) → t ∈ q → T (not (ruledOut M R q j row)) →
           standing M R t (M .slices t) row ≡ standing M R t j row
       settled-so-far t m = unread-settled M R q rows row here t j (none t m) L
 

@@ -14,11 +14,11 @@ use Rattle.schedule.specs.Machine.{Machine}
 use Rattle.schedule.specs.Schedule.{Bytes, standing, ruledOut, keepsOpen, counts}
 
 module _ {Test : Type 0} (M : Machine Test) (R : Bytes Test) (q more : List Test) (within : Within q more) where
-  pub ruled-out-by-more : (j row : ℕ) → T (ruledOut M R q j row) → T (ruledOut M R more j row)
+  ruled-out-by-more : (j row : ℕ) → T (ruledOut M R q j row) → T (ruledOut M R more j row)
   unfolding ruledOut
   ruled-out-by-more j row = any-within _ q more within
 
-  pub kept-open-by-fewer : (t : Test) (j row : ℕ) → T (keepsOpen M R more t j row) → T (keepsOpen M R q t j row)
+  kept-open-by-fewer : (t : Test) (j row : ℕ) → T (keepsOpen M R more t j row) → T (keepsOpen M R q t j row)
   unfolding keepsOpen
   kept-open-by-fewer t j row kept =
       let parts = both (M .equal t (standing M R t j row)) (not (ruledOut M R more j row)) kept in

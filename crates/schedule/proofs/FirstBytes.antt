@@ -53,7 +53,7 @@ andThen-twice Ordering·lt b c = refl
 andThen-twice Ordering·eq b c = refl
 andThen-twice Ordering·gt b c = refl
 
-pub order-one-more : (xs ys : List ℕ) (x y : ℕ) → length xs ≡ length ys →
+order-one-more : (xs ys : List ℕ) (x y : ℕ) → length xs ≡ length ys →
     order (xs ++ (x ∷ [])) (ys ++ (y ∷ [])) ≡ andThen (order xs ys) (compare x y)
 unfolding order
 order-one-more [] [] x y long = andThen-nothing (compare x y)
@@ -81,7 +81,7 @@ module _ (R : Bytes ColumnTest) (t : ColumnTest) (row : ℕ) where
       cleared-at (t .width) (bytesIn R t row) j (omega (arith, length-bytesIn R t row))
       ∙ ap (clearedByte (t .width) j) (mapped-at (λ i. R t i row) (slicesOf (t .width)) j 0 h)
 
-  pub standing-is-order : (j : ℕ) → j ≤ slicesOf (t .width) →
+  standing-is-order : (j : ℕ) → j ≤ slicesOf (t .width) →
       standing comparing R t j row
       ≡ order (take j (cleared (t .width) (bytesIn R t row))) (take j (bytesOf (t .width) (literalOf (t .comparison))))
   unfolding standing order byteOf

@@ -26,7 +26,7 @@ module _ {Test : Type 0} (M : Machine Test) (R : Bytes Test) where
       (λ j h. adds-at-most (counts M R q t j rows) (length rows))
 
   module _ (L : Lawful M) (q : List Test) (sliced : (t : Test) → t ∈ q → 0 < M .slices t) (t : Test) (has : 0 < M .slices t) where
-    pub first-slice-counts : (row : ℕ) (rows : List ℕ) → T (counts M R q t 0 (row ∷ rows))
+    first-slice-counts : (row : ℕ) (rows : List ℕ) → T (counts M R q t 0 (row ∷ rows))
     unfolding counts keepsOpen standing
     first-slice-counts row rows =
         both-pass (ltb 0 (M .slices t)) (any (keepsOpen M R q t 0) (row ∷ rows)) (lt→ltb 0 (M .slices t) has)

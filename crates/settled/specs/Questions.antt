@@ -22,7 +22,7 @@ pub data Question : Type 0 where
   listing : (rows : ℕ) (bits out : List ℕ) → Question
 
 -- a query of these tests
-abbrev pub asking : List Test → Query
+abbrev asking : List Test → Query
 asking tests = record { count = length tests; tests = take mostTests (tests ++ replicate mostTests emptySlot) }
 
 -- what the definitions of the promises answer

@@ -125,16 +125,16 @@ unfolding valueFrom
 value-from-grows begun [] = omega arith
 value-from-grows begun (b ∷ more) = omega (arith, value-from-grows (begun * 10 + (b - 48)) more)
 
-pub value-grows : (word more : List ℕ) → value word ≤ value (word ++ more)
+value-grows : (word more : List ℕ) → value word ≤ value (word ++ more)
 value-grows word more = rw (value-joined 0 word more) (value-from-grows (value word) more)
 
-pub value-decimal : (n : ℕ) → n < room → value (decimal n) ≡ n
+value-decimal : (n : ℕ) → n < room → value (decimal n) ≡ n
 unfolding valueFrom
 value-decimal =
     by-digits (λ n word. value word ≡ n) (λ d small. omega arith)
     (λ n d front small some is. value-joined 0 front (digit d ∷ []) ∙ rw is (omega arith))
 
-pub same-number : (n m : ℕ) → n < room → m < room → decimal n ≡ decimal m → n ≡ m
+same-number : (n m : ℕ) → n < room → m < room → decimal n ≡ decimal m → n ≡ m
 same-number n m small fits e = sym (value-decimal n small) ∙ ap value e ∙ value-decimal m fits
 
 module _ (n m : ℕ) (small : n < room) (fits : m < room) {ending : ℕ} {left : List ℕ} (stops : IsDigit ending → ⊥) where

@@ -74,7 +74,7 @@ comparison-back (AtLeast _) = refl
 comparison-back (Equal _) = refl
 comparison-back (Differs _) = refl
 
-pub same-comparison : (first second : Comparison) → signOf first ≡ signOf second → literalOf first ≡ literalOf second →
+same-comparison : (first second : Comparison) → signOf first ≡ signOf second → literalOf first ≡ literalOf second →
     first ≡ second
 same-comparison first second signs literals =
     sym (comparison-back first)

@@ -46,7 +46,7 @@ pub record Begun (text : List ℕ) (from begun number at : ℕ) : Type 0 where
   pub within : at ≤ length text
   pub some : 0 < number
   pub small : number < decimalLimit
-  pub spells : Spells text from begun number at
+  spells : Spells text from begun number at
 
 pub nothing-further : (text : List ℕ) (from begun : ℕ) → from ≤ length text → 0 < begun → begun < decimalLimit →
     Begun text from begun begun from
