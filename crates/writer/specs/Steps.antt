@@ -1,4 +1,4 @@
--- What a step of the writer may rely on: the refusals before 10 have been tried and none holds. Assumes nothing.
+-- What a step of the writer may rely on, once the refusals before 10 have been tried and none holds, and what it leaves. Assumes nothing.
 use Prim.Native.Nat.{ℕ, _*_, _%_, _≤_, _<_}
 use mathlib.Core.Path.{_≡_}
 use mathlib.Core.List.{List}
@@ -19,3 +19,7 @@ pub record FitCodes (rows : ℕ) (widths codes : List ℕ) : Type 0 where
   pub few-rows : rows ≤ mostRows
   pub full : length codes ≡ rows * length widths
   pub each : (i : ℕ) → i < length codes → tooLarge (widthOf widths (i % length widths)) (getD codes i 0) ≡ false
+
+-- a list that holds, at each place below n, what is made of the place
+pub record Holds (made : ℕ → ℕ) (n : ℕ) (list : List ℕ) : Type 0 where
+  pub each : (place : ℕ) → place < n → getD list place 0 ≡ made place

@@ -4,15 +4,18 @@ use register::MOST_COLUMNS;
 use register::MOST_ROWS;
 use register::Refusal;
 ghost use mathlib.Core.Path.{_≡_};
-ghost use Prim.Native.Nat.{_+_, _*_, _≤_, _<_};
-ghost use lib.ListN.{length};
+ghost use mathlib.Core.Bool.{not};
+ghost use Prim.Native.Nat.{_+_, _*_, _^_, _≤_, _<_};
+ghost use lib.Dec.{ltb};
+ghost use lib.ListN.{length, getD};
 ghost use Rattle.basis.specs.Buffers.{laid};
+ghost use Rattle.basis.specs.Places.{firstPlace};
 ghost use Rattle.basis.specs.Numbers.{toLittle};
 ghost use Rattle.codes.specs.Width.{slicesOf};
 ghost use Rattle.register.specs.Layout.{slicesBefore, bytesBefore};
 ghost use Rattle.register.specs.Limits.{mostRows};
 ghost use Rattle.writer.specs.Layout.{widthOf, sliceOf, columnOf, bodyOf, entryWith, directoryOf, trailerWith, fileOf};
-ghost use Rattle.writer.specs.Steps.{FitWidths, FitCodes};
+ghost use Rattle.writer.specs.Steps.{FitWidths, FitCodes, Holds};
 ghost use Rattle.writer.specs.Answers.{refusedWith, shownOf};
 ghost use Rattle.writer.specs.Writing.{firstUnfit, firstTooLarge, writtenOf, shownFor, leftIn};
 
@@ -46,7 +49,7 @@ pub fn write(rows: usize, widths: &[u8], codes: &[u64], out: &mut [u8]) -> Writt
     if codes.len() != rows * columns {
         return refused(9, 0, 0);
     }
-    let large = first_too_large(widths, codes);
+    let large = first_too_large(rows, widths, codes);
     if large < codes.len() {
         return refused(8, large, 0);
     }
@@ -83,20 +86,56 @@ fn first_unfit(widths: &[u8]) -> usize
     column
 }
 
-// The lowest index of a code that is too large for its column, or the number of codes.
-fn first_too_large(widths: &[u8], codes: &[u64]) -> usize
+// The lowest index of a code that is too large for its column, or the number of codes. Codes are
+// compared row by row with limits that are made once.
+fn first_too_large(rows: usize, widths: &[u8], codes: &[u64]) -> usize
     requires { ⌜ FitWidths (now widths) ⌝ }
+    requires { ⌜ length (now codes) ≡ rows * length (now widths) ⌝ }
     ensures { λ r. ⌜ r ≡ firstTooLarge (now (widths .entry)) (now (codes .entry)) ⌝ }
 {
     let columns = widths.len();
-    let mut i = 0;
-    while i < codes.len() {
-        if codes::too_large(widths[i % columns], codes[i]) {
-            return i;
+    let limits = limits_of(widths);
+    let mut row = 0;
+    while row < rows {
+        let column = first_at_limit(&limits, columns, codes, row * columns);
+        if column < columns {
+            return row * columns + column;
         }
-        i = i + 1;
+        row = row + 1;
     }
-    i
+    codes.len()
+}
+
+// The limit of each column: 2 to the power of its width.
+fn limits_of(widths: &[u8]) -> [u64; 32]
+    requires { ⌜ FitWidths (now widths) ⌝ }
+    ensures { λ r. ⌜ Holds (λ column. 2 ^ widthOf (now (widths .entry)) column) (length (now (widths .entry))) r ⌝ }
+{
+    let mut limits = [0u64; 32];
+    let mut column = 0;
+    while column < widths.len() {
+        let width = widths[column];
+        limits[column] = 1 << width;
+        column = column + 1;
+    }
+    limits
+}
+
+// The lowest column whose code, in the row that starts at a place, is not below its limit, or the
+// number of columns.
+fn first_at_limit(limits: &[u64; 32], columns: usize, codes: &[u64], at: usize) -> usize
+    requires { ⌜ (columns ≤ 32) × (at + columns ≤ length (now codes)) ⌝ }
+    ensures { λ r. ⌜ r ≡ firstPlace (λ column. not (ltb (getD (now (codes .entry)) (at + column) 0)
+        (getD (now (limits .entry)) column 0))) columns ⌝ }
+{
+    let mut column = 0;
+    while column < columns {
+        if limits[column] <= codes[at + column] {
+            return column;
+        }
+        column = column + 1;
+    }
+    column
 }
 
 // How many slices all columns have.

@@ -145,7 +145,7 @@ returns-5 c =
     (writing.miscounted _ _ _ _ (past-6 (c .before .before)) (c .before .if5 .taken))
 
 first-too-large-requires : tie.Need-first-too-large-requires
-first-too-large-requires c κs = fit-widths (c .before)
+first-too-large-requires c κs = (fit-widths (c .before), c .if5 .left)
 
 refused-requires-6 : tie.Need-refused-requires-6
 refused-requires-6 c κs = search needs
