@@ -4,6 +4,7 @@
 --     some-slice              a column has a slice
 --     slices-at-most-four     and no more than four
 --     earlier-slices          the slices before any one of them hold a number of 24 bits
+--     bytes-of-bits           a power of 2 to a multiple of 8 is a power of 256
 --     two-eighths             codes times pads are as many as the slices' numbers
 --     unfit-false, fit-width  a width that is not unfit is between 1 and the widest, and back
 use Prim.Native.Nat.{ℕ, zero, suc, _+_, _*_, _^_, _≤_, _<_}
@@ -44,7 +45,7 @@ earlier-slices width slice fits h =
     pow-le-pow-right {n = 256} (lit< tt) {j = 3} (omega arith)
 
 -- a power of 2 to a multiple of 8 is a power of 256
-bytes-of-bits : (n : ℕ) → 2 ^ (8 * n) ≡ 256 ^ n
+pub bytes-of-bits : (n : ℕ) → 2 ^ (8 * n) ≡ 256 ^ n
 bytes-of-bits zero = refl
 bytes-of-bits (suc n) = rw (mul-suc, pow-add, bytes-of-bits n, pow-suc 256 n)
 

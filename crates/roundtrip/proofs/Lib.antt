@@ -1,7 +1,5 @@
 -- What is written is looked up again.
 pub mod Elements
-pub mod Parts
-pub mod Joined
 pub mod Sizes
 pub mod WrittenTrailer
 pub mod WrittenDirectory

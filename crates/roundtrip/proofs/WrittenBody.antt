@@ -8,7 +8,6 @@ use native.Mathlib.Nat.{mul-comm}
 use mathlib.Core.Path.{_≡_}
 use mathlib.Core.List.{List}
 use lib.ListN.{length}
-use Rattle.basis.proofs.Runs.{mapped-at}
 use Rattle.codes.specs.Width.{slicesOf}
 use Rattle.codes.specs.Bytes.{bytesOf, byteOf}
 use Rattle.codes.specs.Pad.{cleared}
@@ -16,12 +15,11 @@ use Rattle.codes.proofs.RoundTrip.{length-bytesOf}
 use Rattle.codes.proofs.Pads.{bytesOf-cleared}
 use Rattle.register.specs.Layout.{bytesBefore}
 use Rattle.register.specs.Cells.{byteAt, bytesAt}
-use Rattle.writer.specs.Layout.{widthOf, codeOf, sliceOf, columnOf, bodyOf, fileOf}
+use Rattle.writer.specs.Layout.{widthOf, codeOf, sliceOf, fileOf}
 use Rattle.writer.specs.Steps.{FitWidths, FitCodes}
-use Rattle.writer.proofs.Lengths.{length-sliceOf, length-slices, length-columns}
-use Rattle.roundtrip.proofs.Parts.{PartAt, part-in-front, part-of-part, element-of-part}
+use Rattle.writer.proofs.Parts.{PartAt, part-in-front}
+use Rattle.writer.proofs.Body.{slice-in-body, byte-of-slice}
 use Rattle.roundtrip.proofs.Elements.{made-of-each}
-use Rattle.roundtrip.proofs.Joined.{joined-part}
 use Rattle.writer.proofs.Columns.{code-below}
 use Rattle.roundtrip.proofs.WrittenTrailer.{written-rows}
 use Rattle.roundtrip.proofs.WrittenDirectory.{written-width, written-offset}
@@ -29,28 +27,22 @@ use Rattle.roundtrip.proofs.WrittenDirectory.{written-width, written-of
 pub written-slice : (rows : ℕ) (widths codes : List ℕ) (column slice : ℕ) → column < length widths →
     slice < slicesOf (widthOf widths column) →
     PartAt (fileOf rows widths codes) (bytesBefore rows (widthOf widths) column + rows * slice) (sliceOf rows widths codes column slice)
-unfolding fileOf bodyOf columnOf
+unfolding fileOf
 written-slice rows widths codes column slice column-there slice-there =
-    let before-column = length-columns rows widths codes column in
-    let before-slice = length-slices rows widths codes column slice in
-    let its-column = joined-part (columnOf rows widths codes) column (length widths) _ column-there before-column in
-    let in-column = joined-part (sliceOf rows widths codes column) slice _ _ slice-there before-slice in
-    part-in-front _ (part-of-part its-column in-column)
+    part-in-front _ (slice-in-body rows widths codes column slice column-there slice-there)
 
 module _ (rows : ℕ) (widths codes : List ℕ) (fit-widths : FitWidths widths) (fit-codes : FitCodes rows widths codes) (row column : ℕ)
     (row-there : row < rows) (column-there : column < length widths) where
   pub written-byte : (slice : ℕ) → slice < slicesOf (widthOf widths column) →
       byteAt (fileOf rows widths codes) column slice row ≡ byteOf (widthOf widths column) (codeOf widths codes row column) slice
-  unfolding byteAt sliceOf
+  unfolding byteAt
   written-byte slice slice-there =
-      let inside : row < length (sliceOf rows widths codes column slice) = rw length-sliceOf row-there in
       rw (
         written-offset rows widths codes fit-widths fit-codes column column-there,
         written-rows rows widths codes fit-widths fit-codes,
         mul-comm slice rows,
-        element-of-part row 0 inside (written-slice rows widths codes column slice column-there slice-there),
       )
-      (mapped-at (λ r. byteOf (widthOf widths column) (codeOf widths codes r column) slice) rows row 0 row-there)
+      (byte-of-slice rows widths codes column slice row row-there (written-slice rows widths codes column slice column-there slice-there))
 
   pub written-bytes : bytesAt (fileOf rows widths codes) column row ≡ bytesOf (widthOf widths column) (codeOf widths codes row column)
   unfolding bytesAt byteOf

@@ -21,8 +21,8 @@ use Rattle.register.specs.File.{entryIn, offsetOf, widthIn, offsetIn, unfitEntr
 use Rattle.writer.specs.Layout.{widthOf, bodyOf, entryWith, directoryOf, trailerOf, fileOf}
 use Rattle.writer.specs.Steps.{FitWidths, FitCodes}
 use Rattle.writer.proofs.Lengths.{entryOf, length-bodyOf, length-entryWith, length-entries}
-use Rattle.roundtrip.proofs.Parts.{PartAt, part-itself, part-in-front, part-behind, part-cut, number-of-part}
-use Rattle.roundtrip.proofs.Joined.{joined-part}
+use Rattle.writer.proofs.Parts.{PartAt, part-itself, part-in-front, part-behind, part-cut, number-of-part}
+use Rattle.writer.proofs.Joined.{joined-part}
 use Rattle.roundtrip.proofs.Sizes.{bytes-fit}
 use Rattle.roundtrip.proofs.WrittenTrailer.{written-rows, written-directory}
 

@@ -18,7 +18,7 @@ use Rattle.register.specs.File.{trailerIn, rowsIn, columnsIn, versionIn, direct
 use Rattle.writer.specs.Layout.{widthOf, bodyOf, directoryOf, trailerWith, trailerOf, fileOf}
 use Rattle.writer.specs.Steps.{FitWidths, FitCodes}
 use Rattle.writer.proofs.Lengths.{length-trailerWith}
-use Rattle.roundtrip.proofs.Parts.{PartAt, part-itself, part-first, part-behind, part-cut, number-of-part}
+use Rattle.writer.proofs.Parts.{PartAt, part-itself, part-first, part-behind, part-cut, number-of-part}
 use Rattle.roundtrip.proofs.Sizes.{bytes-fit}
 
 -- the numbers of a trailer, each behind those before it

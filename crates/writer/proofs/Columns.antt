@@ -2,13 +2,12 @@
 --   Counted              the slices of the columns passed, counted, and few
 --   none-counted         at first
 --   one-more-counted     after one more column
---   column-within        a column's bytes are within the body
 --   narrow               a width that fits is at most the widest
 --   code-there           the code of a row in a column stands among the codes
 --   code-below           and is below 2^k
+--   stored-small         so its stored number is below 2^32
 use Prim.Native.Nat.{ℕ, _+_, _*_, _^_, _≤_, _<_}
 use native.Mathlib.Omega.{arith}
-use native.Mathlib.Nat.{mul-add, mul-le-mul-left}
 use native.Mathlib.Numerals.{add-one}
 use mathlib.Core.Path.{_≡_, refl}
 use mathlib.Core.List.{List}
@@ -16,10 +15,12 @@ use mathlib.Core.Bool.{false}
 use lib.Arith.{digits-lt, digits-mod}
 use lib.ListN.{length}
 use borrow.Author.Tests.{ltb-true, not-false}
+use Rattle.basis.proofs.Numbers.{four-bytes}
 use Rattle.codes.specs.Width.{widest, slicesOf, tooLarge}
+use Rattle.codes.specs.Bytes.{storedOf}
 use Rattle.codes.proofs.Width.{unfit-false, slices-at-most-four}
-use Rattle.register.specs.Layout.{slicesBefore, bytesBefore}
-use Rattle.register.proofs.Body.{among-all}
+use Rattle.codes.proofs.RoundTrip.{stored-below}
+use Rattle.register.specs.Layout.{slicesBefore}
 use Rattle.register.proofs.Directory.{one-more-column}
 use Rattle.writer.specs.Layout.{widthOf, codeOf}
 use Rattle.writer.specs.Steps.{FitWidths, FitCodes}
@@ -46,12 +47,6 @@ one-more-counted widths fit slices column more before there same =
       few = omega (arith, before .few);
     }
 
-pub column-within : (rows : ℕ) (widths : List ℕ) (slices column : ℕ) → Counted widths slices column → column < length widths →
-    rows * slices + rows * slicesOf (widthOf widths column) ≤ bytesBefore rows (widthOf widths) (length widths)
-column-within rows widths slices column before there =
-    rw (before .counted, ← mul-add rows (slicesBefore (widthOf widths) column) (slicesOf (widthOf widths column)))
-    (mul-le-mul-left rows (among-all (widthOf widths) column (length widths) there))
-
 -- a code that is not too large
 below-limit : (width code : ℕ) → tooLarge width code ≡ false → code < 2 ^ width
 unfolding tooLarge
@@ -66,3 +61,9 @@ module _ (rows : ℕ) (widths codes : List ℕ) (fit : FitCodes rows widths code
   code-below =
       let own = digits-mod row column-there in
       below-limit (widthOf widths column) _ (rw own at (fit .each (row * length widths + column) code-there))
+
+  pub stored-small : FitWidths widths → storedOf (widthOf widths column) (codeOf widths codes row column) < 2 ^ 32
+  stored-small fit-widths =
+      let width = widthOf widths column in
+      let four = slices-at-most-four width (narrow widths fit-widths column column-there) in
+      four-bytes (slicesOf width) _ four (stored-below width _ code-below)

@@ -5,19 +5,25 @@ use register::MOST_ROWS;
 use register::Refusal;
 ghost use mathlib.Core.Path.{_≡_};
 ghost use mathlib.Core.Bool.{not};
-ghost use Prim.Native.Nat.{_+_, _*_, _^_, _≤_, _<_};
+ghost use mathlib.Core.List.{map};
+ghost use Prim.Native.Nat.{_+_, _*_, _/_, _%_, _^_, _≤_, _<_, min};
 ghost use lib.Dec.{ltb};
 ghost use lib.ListN.{length, getD};
 ghost use Rattle.basis.specs.Buffers.{laid};
 ghost use Rattle.basis.specs.Places.{firstPlace};
+ghost use Rattle.basis.specs.Lists.{below};
 ghost use Rattle.basis.specs.Numbers.{toLittle};
 ghost use Rattle.codes.specs.Width.{slicesOf};
+ghost use Rattle.codes.specs.Bytes.{storedOf};
 ghost use Rattle.register.specs.Layout.{slicesBefore, bytesBefore};
 ghost use Rattle.register.specs.Limits.{mostRows};
-ghost use Rattle.writer.specs.Layout.{widthOf, sliceOf, columnOf, bodyOf, entryWith, directoryOf, trailerWith, fileOf};
-ghost use Rattle.writer.specs.Steps.{FitWidths, FitCodes, Holds};
+ghost use Rattle.writer.specs.Layout.{widthOf, codeOf, bodyOf, entryWith, directoryOf, trailerWith, fileOf};
+ghost use Rattle.writer.specs.Steps.{FitWidths, FitCodes, FitBlock, Holds, Put};
 ghost use Rattle.writer.specs.Answers.{refusedWith, shownOf};
 ghost use Rattle.writer.specs.Writing.{firstUnfit, firstTooLarge, writtenOf, shownFor, leftIn};
+
+// So many rows are written at a time.
+const BLOCK: usize = 256;
 
 // The answer to writing: how many bytes the file has, or the refusal.
 pub enum Written {
@@ -166,59 +172,116 @@ fn write_parts(rows: usize, widths: &[u8], codes: &[u64], body: usize, out: &mut
     write_trailer(rows, columns, body, out, body + 8 * columns);
 }
 
-// Writes the slices of all columns to the front.
+// Writes the slices of all columns to the front, by blocks of rows, so that the codes are gone
+// through once.
 fn write_body(rows: usize, widths: &[u8], codes: &[u64], out: &mut [u8])
     requires { ⌜ FitWidths (now widths) ⌝ }
     requires { ⌜ FitCodes rows (now widths) (now codes) ⌝ }
     requires { ⌜ bytesBefore rows (widthOf (now widths)) (length (now widths)) ≤ length (now out) ⌝ }
     ensures { λ _. ⌜ now (out .exit) ≡ laid (now (out .entry)) 0 (bodyOf rows (now (widths .entry)) (now (codes .entry))) ⌝ }
 {
+    let mut first = 0;
+    while first < rows {
+        let n = rows_in_block(rows - first);
+        write_block(rows, widths, codes, first, n, out);
+        first = first + n;
+    }
+}
+
+// How many of the rows that are left the next block has.
+fn rows_in_block(left: usize) -> usize
+    ensures { λ r. ⌜ r ≡ min left 256 ⌝ }
+{
+    if left < BLOCK {
+        return left;
+    }
+    BLOCK
+}
+
+// Writes the bytes of a block of rows, column after column.
+fn write_block(rows: usize, widths: &[u8], codes: &[u64], first: usize, n: usize, out: &mut [u8])
+    requires { ⌜ FitWidths (now widths) ⌝ }
+    requires { ⌜ FitCodes rows (now widths) (now codes) ⌝ }
+    requires { ⌜ FitBlock rows (now widths) first n (now out) ⌝ }
+    ensures { λ _. ⌜ Put rows (bodyOf rows (now (widths .entry)) (now (codes .entry))) (now (out .entry)) (now (out .exit))
+        first (first + n) 0 (slicesBefore (widthOf (now (widths .entry))) (length (now (widths .entry)))) ⌝ }
+{
     let mut slices: usize = 0;
     let mut column = 0;
     while column < widths.len() {
-        write_column(rows, widths, codes, column, out, rows * slices);
+        write_block_column(rows, widths, codes, column, slices, first, n, out);
         slices = slices + codes::slices_of(widths[column]);
         column = column + 1;
     }
 }
 
-// Writes the slices of one column from a place on.
-fn write_column(rows: usize, widths: &[u8], codes: &[u64], column: usize, out: &mut [u8], at: usize)
-    requires { ⌜ FitWidths (now widths) ⌝ }
-    requires { ⌜ FitCodes rows (now widths) (now codes) ⌝ }
-    requires { ⌜ (column < length (now widths)) × (at + rows * slicesOf (widthOf (now widths) column) ≤ length (now out)) ⌝ }
-    ensures { λ _. ⌜ now (out .exit) ≡ laid (now (out .entry)) at (columnOf rows (now (widths .entry)) (now (codes .entry)) column) ⌝ }
-{
-    let slices = codes::slices_of(widths[column]);
-    let mut slice = 0;
-    while slice < slices {
-        write_slice(rows, widths, codes, column, slice, out, at + rows * slice);
-        slice = slice + 1;
-    }
-}
-
-// Writes one slice of a column from a place on: its byte of every row.
-fn write_slice(
+// Writes the bytes of a block of rows in one column, with so many slices before it: slice after
+// slice, from a copy of their stored numbers.
+fn write_block_column(
     rows: usize,
     widths: &[u8],
     codes: &[u64],
     column: usize,
-    slice: usize,
+    slices: usize,
+    first: usize,
+    n: usize,
     out: &mut [u8],
-    at: usize,
 )
     requires { ⌜ FitWidths (now widths) ⌝ }
     requires { ⌜ FitCodes rows (now widths) (now codes) ⌝ }
-    requires { ⌜ (column < length (now widths)) × (slice < slicesOf (widthOf (now widths) column)) × (at + rows ≤ length (now out)) ⌝ }
-    ensures { λ _. ⌜ now (out .exit) ≡ laid (now (out .entry)) at (sliceOf rows (now (widths .entry)) (now (codes .entry)) column slice) ⌝ }
+    requires { ⌜ FitBlock rows (now widths) first n (now out) ⌝ }
+    requires { ⌜ (column < length (now widths)) × (slices ≡ slicesBefore (widthOf (now widths)) column) × (slices ≤ 128) ⌝ }
+    ensures { λ _. ⌜ Put rows (bodyOf rows (now (widths .entry)) (now (codes .entry))) (now (out .entry)) (now (out .exit))
+        first (first + n) slices (slices + slicesOf (widthOf (now (widths .entry)) column)) ⌝ }
+{
+    let mut stored = [0u32; BLOCK];
+    copy_stored(rows, widths, codes, column, first, n, &mut stored);
+    let own = codes::slices_of(widths[column]);
+    let mut slice = 0;
+    while slice < own {
+        let at = rows * (slices + slice) + first;
+        write_run(&stored, n, 8 * (own - 1 - slice), out, at);
+        slice = slice + 1;
+    }
+}
+
+// Copies the stored numbers of a block of rows in one column.
+fn copy_stored(
+    rows: usize,
+    widths: &[u8],
+    codes: &[u64],
+    column: usize,
+    first: usize,
+    n: usize,
+    stored: &mut [u32; BLOCK],
+)
+    requires { ⌜ FitWidths (now widths) ⌝ }
+    requires { ⌜ FitCodes rows (now widths) (now codes) ⌝ }
+    requires { ⌜ (column < length (now widths)) × (first + n ≤ rows) × (n ≤ 256) × (length (now stored) ≡ 256) ⌝ }
+    ensures { λ _. ⌜ Holds (λ k. storedOf (widthOf (now (widths .entry)) column)
+        (codeOf (now (widths .entry)) (now (codes .entry)) (first + k) column)) n (now (stored .exit)) ⌝ }
 {
     let columns = widths.len();
-    let width = widths[column];
-    let mut row = 0;
-    while row < rows {
-        let code = codes[row * columns + column];
-        out[at + row] = codes::byte_of(width, code, slice);
-        row = row + 1;
+    let unit = codes::unit_of(widths[column]);
+    let mut k = 0;
+    while k < n {
+        let row = first + k;
+        stored[k] = (codes[row * columns + column] * unit) as u32;
+        k = k + 1;
+    }
+}
+
+// Writes a byte of each of the first n numbers from a place on: the one that stands so many bits
+// from the end.
+fn write_run(stored: &[u32; BLOCK], n: usize, shift: usize, out: &mut [u8], at: usize)
+    requires { ⌜ (n ≤ 256) × (shift < 32) × (at + n ≤ length (now out)) ⌝ }
+    ensures { λ _. ⌜ now (out .exit) ≡ laid (now (out .entry)) at
+        (map (λ k. getD (now (stored .entry)) k 0 / 2 ^ shift % 256) (below n)) ⌝ }
+{
+    let mut k = 0;
+    while k < n {
+        out[at + k] = ((stored[k] >> shift) % 256) as u8;
+        k = k + 1;
     }
 }
 

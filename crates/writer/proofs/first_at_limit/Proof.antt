@@ -2,12 +2,12 @@
 use Prim.Native.Nat.{ℕ, _+_, _-_, _≤_, _<_}
 use native.Mathlib.Omega.{arith}
 use mathlib.Core.Path.{_≡_, sym, ap, _∙_}
-use mathlib.Core.Bool.{not, true, false}
+use mathlib.Core.Bool.{not, false}
 use borrow.Author.Needs.{needs}
 use borrow.Author.Count.{below-none, below-more}
 use borrow.Author.Tests.{le-ltb, lt-ltb}
 use lib.Dec.{ltb}
-use lib.ListN.{length, getD}
+use lib.ListN.{getD}
 use Rattle.basis.proofs.Places.{first-is, first-is-none}
 use Rattle.writer.proofs.first_at_limit.Statement.{statement}
 use Rattle.writer.proofs.first_at_limit.Tie as tie

@@ -1,5 +1,5 @@
 -- `writer::limits_of` meets its contract: every column passed has its limit, and no limit is shifted out. Assumes nothing.
-use Prim.Native.Nat.{ℕ, _-_, _^_, _≤_}
+use Prim.Native.Nat.{_-_, _^_, _≤_}
 use native.Mathlib.Omega.{arith}
 use native.Mathlib.Nat.{one-mul}
 use mathlib.Core.Path.{_≡_, refl, _∙_}

@@ -7,7 +7,7 @@ use mathlib.Core.List.{List, map, flatten}
 use lib.ListN.{length}
 use Rattle.basis.specs.Lists.{below}
 use Rattle.basis.proofs.Lists.{joined-one-more}
-use Rattle.roundtrip.proofs.Parts.{PartAt, part-itself, part-in-front, part-behind}
+use Rattle.writer.proofs.Parts.{PartAt, part-itself, part-in-front, part-behind}
 
 module _ {A : Type 0} (list : ℕ → List A) (i : ℕ) where
   -- with so many more behind it
