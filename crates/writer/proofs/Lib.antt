@@ -6,6 +6,7 @@ pub mod Joined
 pub mod Body
 pub mod Holding
 pub mod PartByPart
+pub mod AtOnce
 pub mod Putting
 pub mod Blocks
 pub mod Writing

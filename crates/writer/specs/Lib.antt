@@ -3,3 +3,4 @@ pub mod Layout
 pub mod Answers
 pub mod Writing
 pub mod Steps
+pub mod Judging

@@ -18,6 +18,7 @@ ghost use Rattle.codes.specs.Bytes.{storedOf};
 ghost use Rattle.register.specs.Layout.{slicesBefore, bytesBefore};
 ghost use Rattle.register.specs.Limits.{mostRows};
 ghost use Rattle.writer.specs.Layout.{widthOf, codeOf, bodyOf, entryWith, directoryOf, trailerWith, fileOf};
+ghost use Rattle.writer.specs.Judging.{Below, Covers, Raised};
 ghost use Rattle.writer.specs.Steps.{FitWidths, FitCodes, FitBlock, Holds, Put};
 ghost use Rattle.writer.specs.Answers.{refusedWith, shownOf};
 ghost use Rattle.writer.specs.Writing.{firstUnfit, firstTooLarge, writtenOf, shownFor, leftIn};
@@ -92,8 +93,8 @@ fn first_unfit(widths: &[u8]) -> usize
     column
 }
 
-// The lowest index of a code that is too large for its column, or the number of codes. Codes are
-// compared row by row with limits that are made once.
+// The lowest index of a code that is too large for its column, or the number of codes. Rows that are
+// known to be below their limits at once are passed over; the others are gone through one by one.
 fn first_too_large(rows: usize, widths: &[u8], codes: &[u64]) -> usize
     requires { ⌜ FitWidths (now widths) ⌝ }
     requires { ⌜ length (now codes) ≡ rows * length (now widths) ⌝ }
@@ -101,7 +102,7 @@ fn first_too_large(rows: usize, widths: &[u8], codes: &[u64]) -> usize
 {
     let columns = widths.len();
     let limits = limits_of(widths);
-    let mut row = 0;
+    let mut row = rows_below(&limits, columns, rows, codes);
     while row < rows {
         let column = first_at_limit(&limits, columns, codes, row * columns);
         if column < columns {
@@ -125,6 +126,51 @@ fn limits_of(widths: &[u8]) -> [u64; 32]
         column = column + 1;
     }
     limits
+}
+
+// How many rows in front are known to be below their limits: all but the last few, or none. What the
+// codes of eight rows and eight rows make, joined bit by bit, is at least each of them.
+fn rows_below(limits: &[u64; 32], columns: usize, rows: usize, codes: &[u64]) -> usize
+    requires { ⌜ (0 < columns) × (columns ≤ 32) × (length (now codes) ≡ rows * columns) ⌝ }
+    ensures { λ r. ⌜ (r ≤ rows) × Below (now (limits .entry)) (now (codes .entry)) columns r ⌝ }
+{
+    let period = 8 * columns;
+    let eights = rows / 8;
+    let joined = joined_codes(codes, period, eights);
+    let mut place = 0;
+    while place < period {
+        if limits[place % columns] <= joined[place] {
+            return 0;
+        }
+        place = place + 1;
+    }
+    8 * eights
+}
+
+// The codes of so many periods, joined place by place.
+fn joined_codes(codes: &[u64], period: usize, periods: usize) -> [u64; 256]
+    requires { ⌜ (period ≤ 256) × (periods * period ≤ length (now codes)) ⌝ }
+    ensures { λ r. ⌜ Covers (now (codes .entry)) period periods r ⌝ }
+{
+    let mut joined = [0u64; 256];
+    let mut i = 0;
+    while i < periods {
+        join_codes(codes, i * period, period, &mut joined);
+        i = i + 1;
+    }
+    joined
+}
+
+// Joins n codes from a place on to what is there.
+fn join_codes(codes: &[u64], at: usize, n: usize, joined: &mut [u64; 256])
+    requires { ⌜ (n ≤ 256) × (at + n ≤ length (now codes)) × (length (now joined) ≡ 256) ⌝ }
+    ensures { λ _. ⌜ Raised (now (codes .entry)) at n (now (joined .entry)) (now (joined .exit)) ⌝ }
+{
+    let mut k = 0;
+    while k < n {
+        joined[k] = joined[k] | codes[at + k];
+        k = k + 1;
+    }
 }
 
 // The lowest column whose code, in the row that starts at a place, is not below its limit, or the

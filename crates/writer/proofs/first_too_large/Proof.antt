@@ -1,4 +1,5 @@
--- `writer::first_too_large` meets its contract: every code of the rows passed is below 2^k, its column's limit. Assumes nothing.
+-- `writer::first_too_large` meets its contract: every code of the rows passed, at once or one by one, is below 2^k, its column's limit.
+-- Assumes nothing.
 use Prim.Native.Nat.{ℕ, _+_, _-_, _*_, _%_, _^_, _≤_, _<_}
 use native.Mathlib.Omega.{arith}
 use native.Mathlib.Nat.{mul-le-mul-right}
@@ -13,6 +14,7 @@ use Rattle.basis.proofs.Places.{first-is-none}
 use Rattle.codes.specs.Width.{tooLarge}
 use Rattle.writer.specs.Layout.{widthOf}
 use Rattle.writer.specs.Steps.{Holds}
+use Rattle.writer.proofs.AtOnce.{below-fits}
 use Rattle.writer.proofs.PartByPart.{none-in-part, first-in-part}
 use Rattle.writer.proofs.first_too_large.Statement.{statement}
 use Rattle.writer.proofs.first_too_large.Tie as tie
@@ -37,7 +39,7 @@ abbrev μ-loop : tie.MeasureT-loop
 
 -- where the function begins, from a turn
 abbrev start : tie.In-loop Inv-loop μ-loop → tie.Start Inv-loop μ-loop
-start c = c .before .before .before .before .before
+start c = c .before .before .before .before .before .before .before
 
 -- the turn's row stands among the codes
 row-within : (c : tie.In-loop Inv-loop μ-loop) →
@@ -52,14 +54,27 @@ by : (c : tie.In-loop Inv-loop μ-loop) (column : ℕ) →
     let args = start c .args in
     let place = c .before .loop .row * length (args .widths .now) + column in
     column < length (args .widths .now) → tooLargeAt (args .widths .now) (args .codes .now) place ≡
-    not (ltb (getD (args .codes .now) place 0) (getD (c .before .before .limits-of .result) column 0))
-by c = by-limit (start c .args .widths .now) (start c .args .codes .now) _ (c .before .before .limits-of .ensures) (c .before .loop .row)
+    not (ltb (getD (args .codes .now) place 0) (getD (c .before .before .before .before .limits-of .result) column 0))
+by c =
+    let made = c .before .before .before .before .limits-of .ensures in
+    by-limit (start c .args .widths .now) (start c .args .codes .now) _ made (c .before .loop .row)
 
 limits-of-requires : tie.Need-limits-of-requires Inv-loop μ-loop
 limits-of-requires c κs = search needs
 
+rows-below-requires : tie.Need-rows-below-requires Inv-loop μ-loop
+rows-below-requires c κs =
+    let pre = c .before .before .before .before .pre in
+    (pre .0 .some, pre .0 .few, pre .1)
+
 loop-holds : tie.Need-loop-holds Inv-loop μ-loop
-loop-holds c = (omega arith, λ earlier h. absurd (omega arith))
+loop-holds c =
+    let below = c .rows-below .ensures in
+    let begin = c .before .before .before .before .before in
+    let args = begin .args in (
+      below .0,
+      below-fits (args .widths .now) (args .codes .now) _ _ (c .before .before .limits-of .ensures) (begin .pre .0 .some) (below .1),
+    )
 
 mul-first-at-limit : tie.Need-mul-first-at-limit Inv-loop μ-loop
 mul-first-at-limit c = omega (arith, row-within (c .before))
@@ -97,7 +112,7 @@ loop-again c =
 returns-2 : tie.Need-returns-2 Inv-loop μ-loop
 returns-2 c =
     let turn = c .before .loop in
-    let begin = c .before .before .before .before .before in
+    let begin = c .before .before .before .before .before .before .before in
     let end : turn .row ≡ begin .args .rows = omega arith in
     sym (first-is-none _ _ (λ k h. turn .inv .1 k (rw (end, ← (begin .pre .1)) h)))
 
@@ -108,6 +123,7 @@ first-too-large-spec =
     Inv-loop
     μ-loop
     limits-of-requires
+    rows-below-requires
     loop-holds
     mul-first-at-limit
     first-at-limit-requires
