@@ -128,8 +128,9 @@ fn limits_of(widths: &[u8]) -> [u64; 32]
     limits
 }
 
-// How many rows in front are known to be below their limits: all but the last few, or none. What the
-// codes of eight rows and eight rows make, joined bit by bit, is at least each of them.
+// How many rows in front are known to be below their limits: all whole eights of them, or none. The
+// codes that stand alike in every eight rows make, joined bit by bit, a number at least as large as
+// each of them.
 fn rows_below(limits: &[u64; 32], columns: usize, rows: usize, codes: &[u64]) -> usize
     requires { ⌜ (0 < columns) × (columns ≤ 32) × (length (now codes) ≡ rows * columns) ⌝ }
     ensures { λ r. ⌜ (r ≤ rows) × Below (now (limits .entry)) (now (codes .entry)) columns r ⌝ }
@@ -161,7 +162,7 @@ fn joined_codes(codes: &[u64], period: usize, periods: usize) -> [u64; 256]
     joined
 }
 
-// Joins n codes from a place on to what is there.
+// Joins n codes from a place on, each to what is held for it.
 fn join_codes(codes: &[u64], at: usize, n: usize, joined: &mut [u64; 256])
     requires { ⌜ (n ≤ 256) × (at + n ≤ length (now codes)) × (length (now joined) ≡ 256) ⌝ }
     ensures { λ _. ⌜ Raised (now (codes .entry)) at n (now (joined .entry)) (now (joined .exit)) ⌝ }
