@@ -30,7 +30,7 @@ first-at-most test (suc n) = go (either (test 0)) (first-at-most (λ place. test
     go (inl h) rest = rw (hits test n h) (omega arith)
     go (inr h) rest = rw (goes-on test n h) (omega arith)
 
-holds-at-first : (test : ℕ → Bool) (n : ℕ) → firstPlace test n < n → test (firstPlace test n) ≡ true
+pub holds-at-first : (test : ℕ → Bool) (n : ℕ) → firstPlace test n < n → test (firstPlace test n) ≡ true
 holds-at-first test zero h = absurd (omega arith)
 holds-at-first test (suc n) h = go (either (test 0)) (holds-at-first (λ place. test (suc place)) n)
   where

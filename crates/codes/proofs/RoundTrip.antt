@@ -19,7 +19,7 @@ use Rattle.codes.proofs.Width.{two-eighths}
 use Rattle.codes.proofs.Big.{big-bound, length-toBig, toBig-bytes, toBig-digit, big-toBig}
 
 -- the stored number of a code fits the slices
-stored-below : (width code : ℕ) → code < 2 ^ width → storedOf width code < 256 ^ slicesOf width
+pub stored-below : (width code : ℕ) → code < 2 ^ width → storedOf width code < 256 ^ slicesOf width
 unfolding storedOf
 stored-below width code fits = rw (← (two-eighths width)) (mul-lt-mul-of-pos-right fits (pow-pos (padOf width)))
 
