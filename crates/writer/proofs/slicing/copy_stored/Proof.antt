@@ -1,4 +1,4 @@
--- `writer::copy_stored` meets its contract: every row passed has its stored number, which fits. Assumes nothing.
+-- `writer::slicing::copy_stored` meets its contract: every row passed has its stored number, which fits. Assumes nothing.
 use Prim.Native.Nat.{ℕ, _+_, _-_, _*_, _^_, _≤_, _<_}
 use native.Mathlib.Omega.{arith}
 use mathlib.Core.Path.{_≡_, refl, ap}
@@ -11,8 +11,8 @@ use Rattle.writer.specs.Layout.{widthOf, codeOf}
 use Rattle.writer.specs.Steps.{Holds}
 use Rattle.writer.proofs.Columns.{code-there, stored-small}
 use Rattle.writer.proofs.Holding.{holds-nothing, holds-one-more}
-use Rattle.writer.proofs.copy_stored.Statement.{statement}
-use Rattle.writer.proofs.copy_stored.Tie as tie
+use Rattle.writer.proofs.slicing.copy_stored.Statement.{statement}
+use Rattle.writer.proofs.slicing.copy_stored.Tie as tie
 
 -- the stored number of a row of the block
 abbrev storedIn : List ℕ → List ℕ → ℕ → ℕ → ℕ → ℕ

@@ -1,4 +1,4 @@
--- `writer::write_block` meets its contract: every column passed has the block's bytes, and its slices are counted. Assumes nothing.
+-- `writer::slicing::write_block` meets its contract: every column passed has the block's bytes, and its slices are counted. Assumes nothing.
 use Prim.Native.Nat.{_+_, _-_}
 use native.Mathlib.Omega.{arith}
 use mathlib.Core.Path.{_≡_, ap, _∙_}
@@ -9,8 +9,8 @@ use Rattle.writer.specs.Layout.{widthOf, bodyOf}
 use Rattle.writer.specs.Steps.{Put}
 use Rattle.writer.proofs.Columns.{Counted, none-counted, one-more-counted}
 use Rattle.writer.proofs.Putting.{put-nothing, put-slices}
-use Rattle.writer.proofs.write_block.Statement.{statement}
-use Rattle.writer.proofs.write_block.Tie as tie
+use Rattle.writer.proofs.slicing.write_block.Statement.{statement}
+use Rattle.writer.proofs.slicing.write_block.Tie as tie
 
 abbrev Inv-loop : tie.InvT-loop
 Inv-loop rows widths codes first n out₀ slices₀ column₀ out slices column =

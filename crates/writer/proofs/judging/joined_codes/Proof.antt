@@ -1,4 +1,4 @@
--- `writer::joined_codes` meets its contract: the periods passed are covered. Assumes nothing.
+-- `writer::judging::joined_codes` meets its contract: the periods passed are covered. Assumes nothing.
 use Prim.Native.Nat.{_+_, _-_, _*_, _≤_}
 use native.Mathlib.Omega.{arith}
 use native.Mathlib.Nat.{mul-le-mul-right}
@@ -6,8 +6,8 @@ use mathlib.Core.Path.{_≡_, refl, _∙_}
 use lib.ListN.{length}
 use Rattle.writer.specs.Judging.{Covers}
 use Rattle.writer.proofs.AtOnce.{covers-nothing, covers-one-more}
-use Rattle.writer.proofs.joined_codes.Statement.{statement}
-use Rattle.writer.proofs.joined_codes.Tie as tie
+use Rattle.writer.proofs.judging.joined_codes.Statement.{statement}
+use Rattle.writer.proofs.judging.joined_codes.Tie as tie
 
 abbrev Inv-loop : tie.InvT-loop
 Inv-loop codes period periods joined₀ i₀ joined i =

@@ -1,4 +1,4 @@
--- `writer::rows_below` meets its contract: what is joined at every place passed is below the limit of the place's column.
+-- `writer::judging::rows_below` meets its contract: what is joined at every place passed is below the limit of the place's column.
 -- Assumes nothing.
 use Prim.Native.Nat.{ℕ, _-_, _*_, _/_, _%_, _≤_, _<_}
 use native.Mathlib.Omega.{arith}
@@ -8,8 +8,8 @@ use borrow.Author.Needs.{needs}
 use borrow.Author.Count.{below-more}
 use lib.ListN.{getD}
 use Rattle.writer.proofs.AtOnce.{below-none, below-covered}
-use Rattle.writer.proofs.rows_below.Statement.{statement}
-use Rattle.writer.proofs.rows_below.Tie as tie
+use Rattle.writer.proofs.judging.rows_below.Statement.{statement}
+use Rattle.writer.proofs.judging.rows_below.Tie as tie
 
 abbrev Inv-loop : tie.InvT-loop
 Inv-loop limits columns rows codes period eights joined place₀ place =

@@ -1,4 +1,4 @@
--- `writer::write_block_column` meets its contract: the bytes of every slice passed are those of the body. Assumes nothing.
+-- `writer::slicing::write_block_column` meets its contract: the bytes of every slice passed are those of the body. Assumes nothing.
 use Prim.Native.Nat.{_+_, _-_, _*_, _≤_, _<_}
 use native.Mathlib.Omega.{arith}
 use native.Mathlib.Nat.{add-zero}
@@ -12,8 +12,8 @@ use Rattle.codes.proofs.Width.{slices-at-most-four}
 use Rattle.writer.proofs.Columns.{narrow}
 use Rattle.writer.proofs.Putting.{put-nothing, put-slices}
 use Rattle.writer.proofs.Blocks.{run-within, run-put}
-use Rattle.writer.proofs.write_block_column.Statement.{statement}
-use Rattle.writer.proofs.write_block_column.Tie as tie
+use Rattle.writer.proofs.slicing.write_block_column.Statement.{statement}
+use Rattle.writer.proofs.slicing.write_block_column.Tie as tie
 
 abbrev Inv-loop : tie.InvT-loop
 Inv-loop rows widths codes column slices first n out₀ stored own slice₀ out slice =

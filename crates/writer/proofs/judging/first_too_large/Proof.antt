@@ -1,4 +1,4 @@
--- `writer::first_too_large` meets its contract: every code of the rows passed, at once or one by one, is below 2^k, its column's limit.
+-- `writer::judging::first_too_large` meets its contract: every code of the rows passed, at once or one by one, is below 2^k, its column's limit.
 -- Assumes nothing.
 use Prim.Native.Nat.{ℕ, _+_, _-_, _*_, _%_, _^_, _≤_, _<_}
 use native.Mathlib.Omega.{arith}
@@ -16,8 +16,8 @@ use Rattle.writer.specs.Layout.{widthOf}
 use Rattle.writer.specs.Steps.{Holds}
 use Rattle.writer.proofs.AtOnce.{below-fits}
 use Rattle.writer.proofs.PartByPart.{none-in-part, first-in-part}
-use Rattle.writer.proofs.first_too_large.Statement.{statement}
-use Rattle.writer.proofs.first_too_large.Tie as tie
+use Rattle.writer.proofs.judging.first_too_large.Statement.{statement}
+use Rattle.writer.proofs.judging.first_too_large.Tie as tie
 
 -- whether the code at an index is too large
 abbrev tooLargeAt : List ℕ → List ℕ → ℕ → Bool

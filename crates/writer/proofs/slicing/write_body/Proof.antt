@@ -1,4 +1,4 @@
--- `writer::write_body` meets its contract: the rows of every block passed have their bytes, and no row is left in the end.
+-- `writer::slicing::write_body` meets its contract: the rows of every block passed have their bytes, and no row is left in the end.
 -- Assumes nothing.
 use Prim.Native.Nat.{_-_, _≤_}
 use native.Mathlib.Omega.{arith}
@@ -10,8 +10,8 @@ use Rattle.writer.specs.Layout.{widthOf, bodyOf}
 use Rattle.writer.specs.Steps.{Put}
 use Rattle.writer.proofs.Lengths.{length-bodyOf}
 use Rattle.writer.proofs.Putting.{put-no-rows, put-rows, put-all}
-use Rattle.writer.proofs.write_body.Statement.{statement}
-use Rattle.writer.proofs.write_body.Tie as tie
+use Rattle.writer.proofs.slicing.write_body.Statement.{statement}
+use Rattle.writer.proofs.slicing.write_body.Tie as tie
 
 abbrev Inv-loop : tie.InvT-loop
 Inv-loop rows widths codes out₀ first₀ out first =

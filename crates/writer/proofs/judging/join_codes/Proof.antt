@@ -1,12 +1,12 @@
--- `writer::join_codes` meets its contract: every code passed is joined to what is held for its place. Assumes nothing.
+-- `writer::judging::join_codes` meets its contract: every code passed is joined to what is held for its place. Assumes nothing.
 use Prim.Native.Nat.{_-_, _≤_}
 use native.Mathlib.Omega.{arith}
 use mathlib.Core.Path.{_≡_}
 use borrow.Author.Needs.{needs}
 use Rattle.writer.specs.Judging.{Raised}
 use Rattle.writer.proofs.AtOnce.{raised-nothing, raised-one-more}
-use Rattle.writer.proofs.join_codes.Statement.{statement}
-use Rattle.writer.proofs.join_codes.Tie as tie
+use Rattle.writer.proofs.judging.join_codes.Statement.{statement}
+use Rattle.writer.proofs.judging.join_codes.Tie as tie
 
 abbrev Inv-loop : tie.InvT-loop
 Inv-loop codes at n joined₀ k₀ joined k = (k ≤ n) × Raised codes at k joined₀ joined

@@ -1,4 +1,4 @@
--- `writer::write_run` meets its contract: every number passed has its byte in its place. Assumes nothing.
+-- `writer::slicing::write_run` meets its contract: every number passed has its byte in its place. Assumes nothing.
 use Prim.Native.Nat.{ℕ, _-_, _/_, _%_, _^_, _≤_}
 use native.Mathlib.Omega.{arith}
 use mathlib.Core.Path.{_≡_}
@@ -7,8 +7,8 @@ use borrow.Author.Needs.{needs}
 use lib.ListN.{getD}
 use Rattle.basis.specs.Lists.{below}
 use Rattle.basis.proofs.Buffers.{Filled, filled-nothing, filled-element}
-use Rattle.writer.proofs.write_run.Statement.{statement}
-use Rattle.writer.proofs.write_run.Tie as tie
+use Rattle.writer.proofs.slicing.write_run.Statement.{statement}
+use Rattle.writer.proofs.slicing.write_run.Tie as tie
 
 -- the byte of a number
 abbrev byteIn : List ℕ → ℕ → ℕ → ℕ

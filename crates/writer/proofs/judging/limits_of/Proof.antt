@@ -1,4 +1,4 @@
--- `writer::limits_of` meets its contract: every column passed has its limit, and no limit is shifted out. Assumes nothing.
+-- `writer::judging::limits_of` meets its contract: every column passed has its limit, and no limit is shifted out. Assumes nothing.
 use Prim.Native.Nat.{_-_, _^_, _≤_}
 use native.Mathlib.Omega.{arith}
 use native.Mathlib.Nat.{one-mul}
@@ -12,8 +12,8 @@ use Rattle.writer.specs.Layout.{widthOf}
 use Rattle.writer.specs.Steps.{Holds}
 use Rattle.writer.proofs.Columns.{narrow}
 use Rattle.writer.proofs.Holding.{holds-nothing, holds-one-more}
-use Rattle.writer.proofs.limits_of.Statement.{statement}
-use Rattle.writer.proofs.limits_of.Tie as tie
+use Rattle.writer.proofs.judging.limits_of.Statement.{statement}
+use Rattle.writer.proofs.judging.limits_of.Tie as tie
 
 abbrev Inv-loop : tie.InvT-loop
 Inv-loop widths limits₀ column₀ limits column =

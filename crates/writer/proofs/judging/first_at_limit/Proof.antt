@@ -1,4 +1,4 @@
--- `writer::first_at_limit` meets its contract: every code passed is below its limit. Assumes nothing.
+-- `writer::judging::first_at_limit` meets its contract: every code passed is below its limit. Assumes nothing.
 use Prim.Native.Nat.{ℕ, _+_, _-_, _≤_, _<_}
 use native.Mathlib.Omega.{arith}
 use mathlib.Core.Path.{_≡_, sym, ap, _∙_}
@@ -9,8 +9,8 @@ use borrow.Author.Tests.{le-ltb, lt-ltb}
 use lib.Dec.{ltb}
 use lib.ListN.{getD}
 use Rattle.basis.proofs.Places.{first-is, first-is-none}
-use Rattle.writer.proofs.first_at_limit.Statement.{statement}
-use Rattle.writer.proofs.first_at_limit.Tie as tie
+use Rattle.writer.proofs.judging.first_at_limit.Statement.{statement}
+use Rattle.writer.proofs.judging.first_at_limit.Tie as tie
 
 abbrev Inv-loop : tie.InvT-loop
 Inv-loop limits columns codes at column₀ column =
