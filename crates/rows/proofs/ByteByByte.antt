@@ -18,7 +18,7 @@ use Rattle.basis.proofs.Members.{_∈_, any-from}
 use Rattle.basis.proofs.Runs.{in-below, run-joined}
 use Rattle.basis.proofs.Those.{those-joined, those-mapped, those-same, those-none, length-those}
 use Rattle.scan.specs.Bits.{bytesFor, bitIn}
-use Rattle.rows.specs.Places.{isSet, placesOf}
+use Rattle.rows.specs.Places.{isSet, placesIn, placesOf}
 use Rattle.rows.specs.RowList.{marked, markedBelow, markedPast}
 
 -- consecutive numbers, moved
@@ -38,7 +38,7 @@ bit-of-byte bits i k h =
 
 -- the marked rows of one byte
 of-one-byte : (bits : List ℕ) (i : ℕ) → those (marked bits) (run (8 * i + 0) 8) ≡ map (λ p. 8 * i + p) (placesOf (getD bits i 0))
-unfolding placesOf
+unfolding placesIn
 of-one-byte bits i =
     ap (those (marked bits)) (run-moved (8 * i) 0 8)
     ∙ those-mapped (marked bits) (λ k. 8 * i + k) (below 8)

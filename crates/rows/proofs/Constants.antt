@@ -1,6 +1,5 @@
--- The rules of the two tables: each is one test, computed over the whole table, and holds at every entry. Assumes nothing.
+-- The rule of the table of positions: one test, computed over the whole table, that holds at every entry. Assumes nothing.
 --   holds-places    the table of positions: row b has the places of the set bits of b, then zeros
---   holds-ones      the table by which bits are counted
 --   few-places      a byte has at most eight set bits
 --   places-by-number    the rows of its places, told by number
 use Prim.Native.Nat.{ℕ, _+_, _*_, _/_, _%_, _≤_}
@@ -15,9 +14,8 @@ use Rattle.basis.specs.Lists.{all, below}
 use Rattle.basis.proofs.Tables.{everyEntry, entry-passes}
 use Rattle.basis.proofs.Lists.{sum-at-most}
 use Rattle.basis.proofs.Those.{length-those}
-use Rattle.basis.proofs.Members.{all-gives}
-use Rattle.basis.proofs.Runs.{below-holds, taken-by-number}
-use Rattle.rows.specs.Places.{isSet, placesOf, HoldsPlaces, HoldsOnes}
+use Rattle.basis.proofs.Runs.{taken-by-number}
+use Rattle.rows.specs.Places.{isSet, placesIn, placesOf, HoldsPlaces}
 
 -- an entry is the place that its row says, or 0 after the last
 unfoldable pub rightPlace : ℕ → ℕ → Bool
@@ -32,18 +30,8 @@ holds-places table long passed byte k few here =
     eqb→eq (getD table at 0) (getD (placesOf (at / 8)) (at % 8) 0) (entry-passes rightPlace 0 table passed at (omega arith))
     ∙ rw (row, column)
 
--- the halves of a byte have as many set bits as the byte
-unfoldable pub rightOnes : List ℕ → ℕ → Bool
-rightOnes table byte = eqb (getD table (byte / 16) 0 + getD table (byte % 16) 0) (length (placesOf byte))
-
-pub holds-ones : (table : List ℕ) → T (all (rightOnes table) (below 256)) → HoldsOnes table
-unfolding rightOnes HoldsOnes
-holds-ones table passed byte few =
-    eqb→eq (getD table (byte / 16) 0 + getD table (byte % 16) 0) (length (placesOf byte))
-    (all-gives (rightOnes table) (below-holds 256 byte few) passed)
-
 pub few-places : (byte : ℕ) → length (placesOf byte) ≤ 8
-unfolding placesOf
+unfolding placesIn
 few-places byte = rw (length-those (isSet byte) (below 8)) (sum-at-most (λ k. cond (isSet byte k) 1 0) 1 8 (λ k h. bit-or-none (isSet byte k)))
   where
     bit-or-none : (is : Bool) → cond is 1 0 ≤ 1

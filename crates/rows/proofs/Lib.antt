@@ -1,6 +1,8 @@
 -- The laws of the row list.
 pub mod Constants
 pub mod ByteByByte
+pub mod SetBits
+pub mod Words
 pub mod LastByte
 pub mod Ahead
 pub mod Outcomes

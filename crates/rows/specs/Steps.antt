@@ -1,9 +1,11 @@
--- What a step of the list writes. Assumes nothing.
-use Prim.Native.Nat.{ℕ, _+_}
+-- What a step of the list reads and writes. Assumes nothing.
+use Prim.Native.Nat.{ℕ, _+_, _*_}
 use mathlib.Core.Path.{_≡_}
 use mathlib.Core.List.{List, _++_, map}
 use lib.ListN.{length, getD, take, drop}
-use Rattle.rows.specs.Places.{placesOf}
+use Rattle.basis.specs.Buffers.{laid}
+use Rattle.rows.specs.Places.{placesIn, placesOf}
+use Rattle.rows.specs.RowList.{markedBelow}
 
 -- the row of entry k of a byte whose first bit is that of the first row
 abbrev pub rowAt : ℕ → ℕ → ℕ → ℕ
@@ -14,3 +16,12 @@ pub record BytePut (byte first at end : ℕ) (before after : List ℕ) : Type 0 
   pub front : take (at + length (placesOf byte)) after ≡ take at before ++ map (λ p. first + p) (placesOf byte)
   pub behind : drop end after ≡ drop end before
   pub same-length : length after ≡ length before
+
+-- a word was read from so many bytes at a place: its set bits are the rows marked there, behind those marked before
+pub record WordRead (bits : List ℕ) (i many word : ℕ) : Type 0 where
+  pub rows : markedBelow (8 * (i + many)) bits ≡ markedBelow (8 * i) bits ++ map (λ p. 8 * i + p) (placesIn 64 word)
+
+-- the rows of a word's set bits stand from a place on, and so many they are
+pub record WordPut (word first at : ℕ) (before after : List ℕ) (many : ℕ) : Type 0 where
+  pub put : after ≡ laid before at (map (λ p. first + p) (placesIn 64 word))
+  pub counted : many ≡ length (placesIn 64 word)

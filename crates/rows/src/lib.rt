@@ -12,8 +12,8 @@ ghost use Rattle.basis.specs.Buffers.{laid};
 ghost use Rattle.register.specs.Limits.{mostRows};
 ghost use Rattle.scan.specs.Bits.{bytesFor};
 ghost use Rattle.basis.specs.Lists.{below};
-ghost use Rattle.rows.specs.Places.{placesOf, HoldsPlaces, HoldsOnes};
-ghost use Rattle.rows.specs.Steps.{rowAt, BytePut};
+ghost use Rattle.rows.specs.Places.{placesIn, placesOf, HoldsPlaces};
+ghost use Rattle.rows.specs.Steps.{rowAt, BytePut, WordRead, WordPut};
 ghost use Rattle.rows.specs.Answers.{refusedWith, shownOf};
 ghost use Rattle.rows.specs.RowList.{marked, markedBelow, markedPast, unfitBits, listedOf, shownFor, leftIn};
 
@@ -22,9 +22,6 @@ pub enum Listed {
     Rows(usize),
     Refused(Refusal),
 }
-
-// How many bits of half a byte are set.
-const ONES: [u8; 16] = [0, 1, 1, 2, 1, 2, 2, 3, 1, 2, 2, 3, 2, 3, 3, 4];
 
 // Writes the rows whose bit is set to the front of `out`, rising. Refused, it changes nothing.
 pub fn list(rows: usize, bits: &[u8], out: &mut [u32]) -> Listed
@@ -38,13 +35,11 @@ pub fn list(rows: usize, bits: &[u8], out: &mut [u32]) -> Listed
     if unfit(rows, bits) {
         return refused(16, 0);
     }
-    let ones = ONES;
-    let many = count_rows(&ones, bits);
+    let many = count_rows(bits);
     if out.len() < many {
         return refused(10, many);
     }
-    let positions = POSITIONS;
-    write_rows(&positions, &ones, bits, many, out);
+    write_rows(bits, many, out);
     Listed::Rows(many)
 }
 
@@ -99,31 +94,109 @@ pub fn is_marked(bits: &[u8], row: usize) -> bool
     wide(bits[row / 8]) / weight % 2 == 1
 }
 
-// How many bits of a byte are set.
-fn ones_of(ones: &[u8; 16], byte: u8) -> usize
-    requires { ⌜ HoldsOnes (now ones) ⌝ }
-    ensures { λ r. ⌜ (r ≡ length (placesOf byte)) × (r ≤ 8) ⌝ }
-{
-    wide(ones[wide(byte) / 16]) + wide(ones[wide(byte) % 16])
-}
-
-// How many bits are set in all bytes.
-fn count_rows(ones: &[u8; 16], bits: &[u8]) -> usize
-    requires { ⌜ HoldsOnes (now ones) × (length (now bits) ≤ mostRows) ⌝ }
+// How many bits are set in all bytes, eight bytes at a time.
+fn count_rows(bits: &[u8]) -> usize
+    requires { ⌜ length (now bits) ≤ mostRows ⌝ }
     ensures { λ r. ⌜ r ≡ length (markedBelow (8 * length (now (bits .entry))) (now (bits .entry))) ⌝ }
 {
     let mut many: usize = 0;
     let mut i = 0;
-    while i < bits.len() {
-        many = many + ones_of(ones, bits[i]);
-        i = i + 1;
+    while i + 8 <= bits.len() {
+        many = many + ones_in(word_at(bits, i, 8));
+        i = i + 8;
+    }
+    many + ones_in(word_at(bits, i, bits.len() - i))
+}
+
+// The word of so many bytes from a place on: its set bits are the rows marked there.
+fn word_at(bits: &[u8], i: usize, many: usize) -> usize
+    requires { ⌜ (many ≤ 8) × (i + many ≤ length (now bits)) ⌝ }
+    ensures { λ r. ⌜ WordRead (now (bits .entry)) i many r ⌝ }
+{
+    let end = i + many;
+    word_of(&bits[i..end])
+}
+
+// The number that at most eight bytes make, the least significant first: its set bits are the rows
+// marked in the bytes.
+fn word_of(bytes: &[u8]) -> usize
+    requires { ⌜ length (now bytes) ≤ 8 ⌝ }
+    ensures { λ r. ⌜ placesIn 64 r ≡ markedBelow (8 * length (now (bytes .entry))) (now (bytes .entry)) ⌝ }
+{
+    let mut word: usize = 0;
+    let mut left = bytes.len();
+    while 0 < left {
+        left = left - 1;
+        word = word * 256 + wide(bytes[left]);
+    }
+    word
+}
+
+// How many bits of a word are set.
+fn ones_in(word: usize) -> usize
+    ensures { λ r. ⌜ (r ≡ length (placesIn 64 word)) × (r ≤ 64) ⌝ }
+{
+    usize::count_ones(word) as usize
+}
+
+// How many bits of a byte are set.
+fn ones_of(byte: u8) -> usize
+    ensures { λ r. ⌜ r ≡ length (placesOf byte) ⌝ }
+{
+    u8::count_ones(byte) as usize
+}
+
+// Writes the rows of all set bits, of which there are so many, to the front: from set bit to set bit
+// where fewer than one in sixteen is set, and else byte after byte.
+fn write_rows(bits: &[u8], all: usize, out: &mut [u32])
+    requires { ⌜ length (now bits) ≤ mostRows ⌝ }
+    requires { ⌜ (all ≡ length (markedBelow (8 * length (now bits)) (now bits))) × (all ≤ length (now out)) ⌝ }
+    ensures { λ _. ⌜ now (out .exit) ≡ laid (now (out .entry)) 0 (markedBelow (8 * length (now (bits .entry))) (now (bits .entry))) ⌝ }
+{
+    if all < bits.len() / 2 {
+        write_words(bits, out);
+        return;
+    }
+    let positions = POSITIONS;
+    write_bytes(&positions, bits, all, out);
+}
+
+// Writes them from set bit to set bit, eight bytes at a time.
+fn write_words(bits: &[u8], out: &mut [u32])
+    requires { ⌜ length (now bits) ≤ mostRows ⌝ }
+    requires { ⌜ length (markedBelow (8 * length (now bits)) (now bits)) ≤ length (now out) ⌝ }
+    ensures { λ _. ⌜ now (out .exit) ≡ laid (now (out .entry)) 0 (markedBelow (8 * length (now (bits .entry))) (now (bits .entry))) ⌝ }
+{
+    let mut at: usize = 0;
+    let mut i = 0;
+    while i + 8 <= bits.len() {
+        let word = word_at(bits, i, 8);
+        at = at + put_word(word, (8 * i) as u32, out, at);
+        i = i + 8;
+    }
+    let word = word_at(bits, i, bits.len() - i);
+    put_word(word, (8 * i) as u32, out, at);
+}
+
+// Puts the rows of a word at a place and answers how many they are. Each turn clears the lowest bit
+// that is left.
+fn put_word(word: usize, first: u32, out: &mut [u32], at: usize) -> usize
+    requires { ⌜ (first + 64 < 2 ^ 32) × (at + length (placesIn 64 word) ≤ length (now out)) ⌝ }
+    ensures { λ r. ⌜ WordPut word first at (now (out .entry)) (now (out .exit)) r ⌝ }
+{
+    let mut many: usize = 0;
+    let mut rest = word;
+    while rest != 0 {
+        out[at + many] = first + usize::trailing_zeros(rest);
+        many = many + 1;
+        rest = rest & (rest - 1);
     }
     many
 }
 
-// Writes the rows of all set bits, of which there are so many, to the front, byte after byte.
-fn write_rows(positions: &[u8; 2048], ones: &[u8; 16], bits: &[u8], all: usize, out: &mut [u32])
-    requires { ⌜ HoldsPlaces (now positions) × HoldsOnes (now ones) × (length (now bits) ≤ mostRows) ⌝ }
+// Writes them byte after byte.
+fn write_bytes(positions: &[u8; 2048], bits: &[u8], all: usize, out: &mut [u32])
+    requires { ⌜ HoldsPlaces (now positions) × (length (now bits) ≤ mostRows) ⌝ }
     requires { ⌜ (all ≡ length (markedBelow (8 * length (now bits)) (now bits))) × (all ≤ length (now out)) ⌝ }
     ensures { λ _. ⌜ now (out .exit) ≡ laid (now (out .entry)) 0 (markedBelow (8 * length (now (bits .entry))) (now (bits .entry))) ⌝ }
 {
@@ -131,7 +204,7 @@ fn write_rows(positions: &[u8; 2048], ones: &[u8; 16], bits: &[u8], all: usize, 
     let mut i = 0;
     while i < bits.len() {
         let byte = bits[i];
-        let many = ones_of(ones, byte);
+        let many = ones_of(byte);
         put_byte(positions, byte, many, (8 * i) as u32, out, at, all);
         at = at + many;
         i = i + 1;

@@ -1,5 +1,5 @@
 -- `rows::is_marked` meets its contract: the bit by a division, and none past the last byte. Assumes nothing.
-use Prim.Native.Nat.{ℕ, _*_, _/_, _%_, _^_, _<_}
+use Prim.Native.Nat.{ℕ, _*_, _/_, _%_, _^_}
 use native.Mathlib.Omega.{arith}
 use native.Mathlib.Nat.{one-mul, zero-div}
 use mathlib.Core.Path.{_≡_, ap, _∙_}
