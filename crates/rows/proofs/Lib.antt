@@ -3,6 +3,8 @@ pub mod Constants
 pub mod ByteByByte
 pub mod SetBits
 pub mod Words
+pub mod ByteOfWord
+pub mod Written
 pub mod LastByte
 pub mod Ahead
 pub mod Outcomes

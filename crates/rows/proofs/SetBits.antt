@@ -1,9 +1,9 @@
--- The set bits of a number: counted, taken from the lowest on, and those of two numbers that are joined into one. Assumes nothing.
+-- The set bits of a number: counted, and those of two numbers that are joined into one. Assumes nothing.
 --   bits-counted     a number that fits a width has as many set bits as it has places of set bits there
---   lowest-first     the first place is the number of zeros below the lowest set bit; the others are those of the number without it
+--   zeros-below      a number is a multiple of the weight of any place up to its lowest set bit
 --   none-in-zero     0 has none
 --   low-then-high    those of a number above another: the lower number's, then the higher one's, moved
-use Prim.Native.Nat.{ℕ, zero, suc, _+_, _-_, _*_, _/_, _%_, _^_, _<_, min}
+use Prim.Native.Nat.{ℕ, zero, suc, _+_, _*_, _/_, _%_, _^_, _≤_, _<_}
 use native.Mathlib.Omega.{arith}
 use native.Mathlib.Nat.{pow-succ', mul-assoc, zero-add, zero-div, div-div-eq-div-mul}
 use mathlib.Core.Path.{_≡_, refl, sym, ap, ap₂, _∙_}
@@ -11,7 +11,6 @@ use mathlib.Core.Logic.{_⊎_, inl, inr}
 use mathlib.Core.List.{List, [], _∷_, _++_, map}
 use lib.Dec.{eqb}
 use lib.ListN.{length, length-map}
-use lib.Bits.{bitAnd, and-step, and-self}
 use lib.Count.{ones, ones-step, trailingZeros}
 use Rattle.basis.specs.Lists.{those, run, below}
 use Rattle.basis.proofs.Lists.{mapped-same}
@@ -71,39 +70,22 @@ bits-counted (suc width) number h = go (low-bit number) (bits-counted width (num
     go (inr e) rest =
         rw (odd width number e) (omega (arith, ones-step number, rest, length-map (placesIn width (number / 2)) suc))
 
--- without its lowest set bit an odd number is twice its half, and an even one twice what its half is without it
-odd-without : (number : ℕ) → number % 2 ≡ 1 → bitAnd number (number - 1) ≡ number / 2 * 2
-odd-without number e =
-    let half : (number - 1) / 2 ≡ number / 2 = omega arith in
-    let bit : min (number % 2) ((number - 1) % 2) ≡ 0 = omega arith in
-    and-step number (number - 1) ∙ rw (half, and-self (number / 2), bit) (omega arith)
-
-even-without : (number : ℕ) → 0 < number → number % 2 ≡ 0 → bitAnd number (number - 1) ≡ bitAnd (number / 2) (number / 2 - 1) * 2
-even-without number some e =
-    let half : (number - 1) / 2 ≡ number / 2 - 1 = omega arith in
-    let bit : min (number % 2) ((number - 1) % 2) ≡ 0 = omega arith in
-    and-step number (number - 1) ∙ rw (half, bit) (omega arith)
-
--- the places of a number twice as great are one further
-doubled : (width number : ℕ) → placesIn (suc width) (number * 2) ≡ map suc (placesIn width number)
-doubled width number =
-    let half : number * 2 / 2 ≡ number = omega arith in
-    even width (number * 2) (omega arith) ∙ ap (λ (n : ℕ). map suc (placesIn width n)) half
-
-pub lowest-first : (width number : ℕ) → 0 < number → number < 2 ^ width →
-    placesIn width number ≡ trailingZeros width number ∷ placesIn width (bitAnd number (number - 1))
+pub zeros-below : (zeros width number : ℕ) → zeros ≤ trailingZeros width number → number ≡ 2 ^ zeros * (number / 2 ^ zeros)
 unfolding trailingZeros
-lowest-first zero number some h = absurd (omega arith)
-lowest-first (suc width) number some h = go (low-bit number) (λ more. lowest-first width (number / 2) more (half-fits width number h))
+zeros-below zero width number h = omega arith
+zeros-below (suc zeros) zero number h = absurd (omega arith)
+zeros-below (suc zeros) (suc width) number h = go (low-bit number) h (zeros-below zeros width (number / 2))
   where
-    go : (number % 2 ≡ 0) ⊎ (number % 2 ≡ 1) → (0 < number / 2 → placesIn width (number / 2) ≡
-        trailingZeros width (number / 2) ∷ placesIn width (bitAnd (number / 2) (number / 2 - 1))) → placesIn (suc width) number ≡
-        trailingZeros (suc width) number ∷ placesIn (suc width) (bitAnd number (number - 1))
-    go (inl e) rest =
-        even width number e
-        ∙ ap (map suc) (rest (omega arith))
-        ∙ rw (e, even-without number some e, doubled width (bitAnd (number / 2) (number / 2 - 1)))
-    go (inr e) rest = odd width number e ∙ rw (e, odd-without number e, doubled width (number / 2))
+    go : (number % 2 ≡ 0) ⊎ (number % 2 ≡ 1) → suc zeros ≤ trailingZeros (suc width) number →
+        (zeros ≤ trailingZeros width (number / 2) → number / 2 ≡ 2 ^ zeros * (number / 2 / 2 ^ zeros)) →
+        number ≡ 2 ^ suc zeros * (number / 2 ^ suc zeros)
+    go (inl e) enough rest =
+        let twice : number ≡ 2 * (number / 2) = omega arith in
+        twice
+        ∙ ap (λ (n : ℕ). 2 * n) (rest (let more = rw e at enough in omega arith))
+        ∙ sym (mul-assoc 2 (2 ^ zeros) (number / 2 / 2 ^ zeros))
+        ∙ ap₂ (λ (m n : ℕ). m * n) (sym (pow-succ' 2 zeros)) (sym (halved number zeros))
+    go (inr e) enough rest = absurd (let none = rw e at enough in omega arith)
 
 pub none-in-zero : (width : ℕ) → placesIn width 0 ≡ []
 unfolding placesIn

@@ -5,7 +5,6 @@
 --   word-read         so a number of the bytes at a place has the rows marked there
 --   count-of-word     with them so many more are marked
 --   room-for-word     where all fit into a buffer, so do they
---   word-filled       and put behind the others, they are written too
 use Prim.Native.Nat.{ℕ, suc, _+_, _*_, _/_, _%_, _^_, _≤_, _<_}
 use native.Mathlib.Omega.{arith}
 use native.Mathlib.Nat.{zero-add, pow-le-pow-right, lt-of-lt-of-le}
@@ -14,9 +13,7 @@ use mathlib.Core.List.{List, [], _∷_, _++_, map}
 use lib.ListN.{length, getD, take, drop, length-append, length-drop, length-map}
 use lib.Seq.{take-length, length-take-le, getD-take, getD-drop}
 use Rattle.basis.specs.Lists.{those, run, below}
-use Rattle.basis.specs.Buffers.{laid}
 use Rattle.basis.specs.Numbers.{little}
-use Rattle.basis.proofs.Buffers.{Filled, filled-more}
 use Rattle.basis.proofs.Numbers.{one-more-byte}
 use Rattle.basis.proofs.Runs.{in-below, run-joined}
 use Rattle.basis.proofs.Those.{those-joined, those-mapped, those-same}
@@ -97,13 +94,3 @@ module _ {bits : List ℕ} {i n word : ℕ} (read : WordRead bits i n word) wher
   room-for-word room inside fit =
       let more : 8 * (i + n) ≤ 8 * length bits = omega arith in
       omega (arith, count-of-word, no-fewer bits more)
-
-  pub word-filled : (buffer : List ℕ) (at : ℕ) {out after : List ℕ} → i + n ≤ length bits →
-      length (markedBelow (8 * length bits) bits) ≤ length buffer → at ≡ length (markedBelow (8 * i) bits) →
-      Filled buffer 0 (markedBelow (8 * i) bits) out → after ≡ laid out at (map (λ p. 8 * i + p) (placesIn 64 word)) →
-      Filled buffer 0 (markedBelow (8 * (i + n)) bits) after
-  word-filled buffer at inside fit place before said =
-      let more = map (λ p. 8 * i + p) (placesIn 64 word) in
-      let long : length more ≡ length (placesIn 64 word) = length-map (placesIn 64 word) (λ p. 8 * i + p) in
-      let room = room-for-word (length buffer) inside fit in
-      rw (read .rows) (filled-more buffer 0 (markedBelow (8 * i) bits) at more before (omega arith) (omega arith) said)

@@ -3,7 +3,6 @@ use Prim.Native.Nat.{ℕ, _+_, _*_}
 use mathlib.Core.Path.{_≡_}
 use mathlib.Core.List.{List, _++_, map}
 use lib.ListN.{length, getD, take, drop}
-use Rattle.basis.specs.Buffers.{laid}
 use Rattle.rows.specs.Places.{placesIn, placesOf}
 use Rattle.rows.specs.RowList.{markedBelow}
 
@@ -21,7 +20,9 @@ pub record BytePut (byte first at end : ℕ) (before after : List ℕ) : Type 0 
 pub record WordRead (bits : List ℕ) (i many word : ℕ) : Type 0 where
   pub rows : markedBelow (8 * (i + many)) bits ≡ markedBelow (8 * i) bits ++ map (λ p. 8 * i + p) (placesIn 64 word)
 
--- the rows of a word's set bits stand from a place on, and so many they are
-pub record WordPut (word first at : ℕ) (before after : List ℕ) (many : ℕ) : Type 0 where
-  pub put : after ≡ laid before at (map (λ p. first + p) (placesIn 64 word))
-  pub counted : many ≡ length (placesIn 64 word)
+-- the rows of a word's set bits stand behind what was before the place, up to the next, and nothing is changed from the end on
+pub record WordPut (word first at end : ℕ) (before after : List ℕ) (next : ℕ) : Type 0 where
+  pub counted : next ≡ at + length (placesIn 64 word)
+  pub front : take next after ≡ take at before ++ map (λ p. first + p) (placesIn 64 word)
+  pub behind : drop end after ≡ drop end before
+  pub same-length : length after ≡ length before

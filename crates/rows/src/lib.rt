@@ -39,7 +39,8 @@ pub fn list(rows: usize, bits: &[u8], out: &mut [u32]) -> Listed
     if out.len() < many {
         return refused(10, many);
     }
-    write_rows(bits, many, out);
+    let positions = POSITIONS;
+    write_rows(&positions, bits, many, out);
     Listed::Rows(many)
 }
 
@@ -146,55 +147,69 @@ fn ones_of(byte: u8) -> usize
     u8::count_ones(byte) as usize
 }
 
-// Writes the rows of all set bits, of which there are so many, to the front: from set bit to set bit
-// where fewer than one in sixteen is set, and else byte after byte.
-fn write_rows(bits: &[u8], all: usize, out: &mut [u32])
-    requires { ⌜ length (now bits) ≤ mostRows ⌝ }
+// Writes the rows of all set bits, of which there are so many, to the front, byte after byte. Where
+// fewer than one bit in sixteen is set it leaves the bytes of 0 out.
+fn write_rows(positions: &[u8; 2048], bits: &[u8], all: usize, out: &mut [u32])
+    requires { ⌜ HoldsPlaces (now positions) × (length (now bits) ≤ mostRows) ⌝ }
     requires { ⌜ (all ≡ length (markedBelow (8 * length (now bits)) (now bits))) × (all ≤ length (now out)) ⌝ }
     ensures { λ _. ⌜ now (out .exit) ≡ laid (now (out .entry)) 0 (markedBelow (8 * length (now (bits .entry))) (now (bits .entry))) ⌝ }
 {
     if all < bits.len() / 2 {
-        write_words(bits, out);
+        write_words(positions, bits, all, out);
         return;
     }
-    let positions = POSITIONS;
-    write_bytes(&positions, bits, all, out);
+    write_bytes(positions, bits, all, out);
 }
 
-// Writes them from set bit to set bit, eight bytes at a time.
-fn write_words(bits: &[u8], out: &mut [u32])
-    requires { ⌜ length (now bits) ≤ mostRows ⌝ }
-    requires { ⌜ length (markedBelow (8 * length (now bits)) (now bits)) ≤ length (now out) ⌝ }
+// Writes them eight bytes at a time, without the bytes of 0.
+fn write_words(positions: &[u8; 2048], bits: &[u8], all: usize, out: &mut [u32])
+    requires { ⌜ HoldsPlaces (now positions) × (length (now bits) ≤ mostRows) ⌝ }
+    requires { ⌜ (all ≡ length (markedBelow (8 * length (now bits)) (now bits))) × (all ≤ length (now out)) ⌝ }
     ensures { λ _. ⌜ now (out .exit) ≡ laid (now (out .entry)) 0 (markedBelow (8 * length (now (bits .entry))) (now (bits .entry))) ⌝ }
 {
     let mut at: usize = 0;
     let mut i = 0;
     while i + 8 <= bits.len() {
         let word = word_at(bits, i, 8);
-        at = at + put_word(word, (8 * i) as u32, out, at);
+        at = put_word(positions, word, (8 * i) as u32, out, at, all);
         i = i + 8;
     }
     let word = word_at(bits, i, bits.len() - i);
-    put_word(word, (8 * i) as u32, out, at);
+    put_word(positions, word, (8 * i) as u32, out, at, all);
 }
 
-// Puts the rows of a word at a place and answers how many they are. Each turn clears the lowest bit
-// that is left.
-fn put_word(word: usize, first: u32, out: &mut [u32], at: usize) -> usize
-    requires { ⌜ (first + 64 < 2 ^ 32) × (at + length (placesIn 64 word) ≤ length (now out)) ⌝ }
-    ensures { λ r. ⌜ WordPut word first at (now (out .entry)) (now (out .exit)) r ⌝ }
+// Puts the rows of a word at a place, with a turn for each byte that is not 0, and answers the place
+// behind them.
+fn put_word(
+    positions: &[u8; 2048],
+    word: usize,
+    first: u32,
+    out: &mut [u32],
+    at: usize,
+    all: usize,
+) -> usize
+    requires { ⌜ HoldsPlaces (now positions) × (first + 512 < 2 ^ 32) ⌝ }
+    requires { ⌜ (at + length (placesIn 64 word) ≤ all) × (all ≤ length (now out)) ⌝ }
+    ensures { λ r. ⌜ WordPut word first at all (now (out .entry)) (now (out .exit)) r ⌝ }
 {
-    let mut many: usize = 0;
+    let mut next = at;
     let mut rest = word;
+    let mut passed: u32 = 0;
     while rest != 0 {
-        out[at + many] = first + usize::trailing_zeros(rest);
-        many = many + 1;
-        rest = rest & (rest - 1);
+        let zeros = usize::trailing_zeros(rest) / 8 * 8;
+        rest = rest >> zeros;
+        let byte = (rest % 256) as u8;
+        let many = ones_of(byte);
+        let row = first + passed + zeros;
+        put_byte(positions, byte, many, row, out, next, all);
+        next = next + many;
+        rest = rest / 256;
+        passed = passed + zeros + 8;
     }
-    many
+    next
 }
 
-// Writes them byte after byte.
+// Writes them with a turn for every byte.
 fn write_bytes(positions: &[u8; 2048], bits: &[u8], all: usize, out: &mut [u32])
     requires { ⌜ HoldsPlaces (now positions) × (length (now bits) ≤ mostRows) ⌝ }
     requires { ⌜ (all ≡ length (markedBelow (8 * length (now bits)) (now bits))) × (all ≤ length (now out)) ⌝ }

@@ -1,116 +1,94 @@
--- `rows::put_word` meets its contract: each turn puts the row of the lowest bit that is left, and leaves the others. Assumes nothing.
-use Prim.Native.Nat.{ℕ, suc, _+_, _-_, _^_, _≤_, _<_}
+-- `rows::put_word` meets its contract: each turn passes the zeros in front and puts the byte behind them. Assumes nothing.
+use Prim.Native.Nat.{_*_, _/_, _^_}
 use native.Mathlib.Omega.{arith}
-use native.Mathlib.Numerals.{add-one}
-use mathlib.Core.Path.{_≡_, refl, sym, ap, _∙_}
-use mathlib.Core.List.{List, [], _∷_, _++_, map, map-append}
-use lib.ListN.{length, getD, take, drop, length-drop, length-map}
-use lib.Seq.{take-suc, take-all, drop-cons, length-take-le}
-use lib.Bits.{bitAnd, and-le-r}
-use lib.Count.{trailingZeros, trailing-le}
-use Rattle.basis.proofs.Buffers.{Filled, filled-nothing, filled-store}
-use Rattle.rows.specs.Places.{placesIn}
-use Rattle.rows.proofs.SetBits.{lowest-first, none-in-zero}
+use native.Mathlib.Nat.{div-le-self}
+use mathlib.Core.Path.{refl}
+use borrow.Author.Needs.{needs}
+use lib.Count.{trailingZeros}
+use Rattle.rows.proofs.ByteOfWord.{Passed, none-passed, NextByte, next-byte, room-for-byte, byte-passed, all-passed}
 use Rattle.rows.proofs.put_word.Statement.{statement}
 use Rattle.rows.proofs.put_word.Tie as tie
 
--- a list of which the part from a place on is known: one element more is taken, and the others are left
-record NextTaken (list : List ℕ) (n next : ℕ) (others : List ℕ) : Type 0 where
-  inside : n < length list
-  taken : take (n + 1) list ≡ take n list ++ (next ∷ [])
-  left : drop (n + 1) list ≡ others
-
-next-taken : (list : List ℕ) (n next : ℕ) (others : List ℕ) → drop n list ≡ next ∷ others → NextTaken list n next others
-next-taken list n next others from =
-    let long = length-drop n list in
-    let inside : n < length list = omega (arith, ap length from) in
-    let both = sym (drop-cons list n 0 inside) ∙ from in
-    let here : getD list n 0 ≡ next = cc in
-    let behind : drop (suc n) list ≡ others = cc in
-    record {
-      inside = inside;
-      taken = rw (add-one n, take-suc list n 0 inside, here);
-      left = rw (add-one n) behind;
-    }
-
 abbrev Inv-loop : tie.InvT-loop
-Inv-loop word first out₀ at many₀ rest₀ out many rest =
-    (rest < 2 ^ 64) × (many ≤ length (placesIn 64 word)) × (drop many (placesIn 64 word) ≡ placesIn 64 rest) ×
-    Filled out₀ at (map (λ p. first + p) (take many (placesIn 64 word))) out
+Inv-loop positions word first out₀ at all next₀ rest₀ passed₀ out next rest passed = Passed word first at all out₀ out next rest passed
 
 abbrev μ-loop : tie.MeasureT-loop
-μ-loop word first out₀ at many₀ rest₀ out many rest = rest
+μ-loop positions word first out₀ at all next₀ rest₀ passed₀ out next rest passed = rest
 
--- the row of a turn is the next of the word's, and it fits the output
-abbrev Next : tie.In-loop Inv-loop μ-loop → Type 0
-Next c =
-    let rest = c .before .loop .rest in
-    NextTaken (placesIn 64 (c .before .before .args .word)) (c .before .loop .many) (trailingZeros 64 rest)
-    (placesIn 64 (bitAnd rest (rest - 1)))
-
-next : (c : tie.In-loop Inv-loop μ-loop) → Next c
-next c =
-    let turn = c .before .loop in
-    next-taken _ _ _ _ (turn .inv .2 ∙ lowest-first 64 (turn .rest) (omega arith) (turn .inv .0))
-
-room : (c : tie.In-loop Inv-loop μ-loop) → c .before .before .args .at + c .before .loop .many < length (c .before .loop .out)
-room c = omega (arith, next c .inside, c .before .loop .inv .3 .same-length)
+-- the byte of a turn
+byte-of : (c : tie.In-loop Inv-loop μ-loop) →
+    NextByte (c .before .loop .rest) (c .before .loop .passed) (trailingZeros 64 (c .before .loop .rest) / 8 * 8)
+byte-of c =
+    let so-far = c .before .loop .inv in
+    next-byte _ _ _ (omega arith) (so-far .small) (so-far .by-bytes) (so-far .within) refl
 
 loop-holds : tie.Need-loop-holds Inv-loop μ-loop
-loop-holds c = (omega arith, omega arith, refl, filled-nothing _ _)
+loop-holds c = none-passed _ _ _ _ _ (omega arith)
 
-add-out : tie.Need-add-out Inv-loop μ-loop
-add-out c = omega (arith, trailing-le 64 (c .before .loop .rest))
+mul-zeros : tie.Need-mul-zeros Inv-loop μ-loop
+mul-zeros c = omega (arith, byte-of c .fits)
 
-add-out-2 : tie.Need-add-out-2 Inv-loop μ-loop
-add-out-2 c = omega (arith, room c)
+cast-rest : tie.Need-cast-rest Inv-loop μ-loop
+cast-rest c = omega (arith, byte-of c .fits)
 
-mul-out : tie.Need-mul-out Inv-loop μ-loop
-mul-out c = omega (arith, room c)
+shr-rest : tie.Need-shr-rest Inv-loop μ-loop
+shr-rest c = omega (arith, byte-of c .fits)
 
-slice-write-out : tie.Need-slice-write-out Inv-loop μ-loop
-slice-write-out c = room c
+cast-byte : tie.Need-cast-byte Inv-loop μ-loop
+cast-byte c = omega arith
 
-add-many : tie.Need-add-many Inv-loop μ-loop
-add-many c = omega (arith, room c)
+ones-of-requires : tie.Need-ones-of-requires Inv-loop μ-loop
+ones-of-requires c κs = search needs
 
-sub-rest : tie.Need-sub-rest Inv-loop μ-loop
-sub-rest c = omega arith
+add-row : tie.Need-add-row Inv-loop μ-loop
+add-row c = omega (arith, byte-of (c .before) .fits)
+
+add-row-2 : tie.Need-add-row-2 Inv-loop μ-loop
+add-row-2 c = omega (arith, byte-of (c .before) .fits)
+
+put-byte-requires : tie.Need-put-byte-requires Inv-loop μ-loop
+put-byte-requires c κs =
+    let turn = c .before .before .before .loop in
+    let start = c .before .before .before .before .before in
+    let byte = byte-of (c .before .before) in
+    let ones = c .before .ones-of .ensures in (
+      (start .pre .0 .0, ones),
+      (
+        omega (arith, byte .fits),
+        omega (arith, ones, room-for-byte (turn .inv) byte, start .pre .1 .0),
+        omega (arith, start .pre .1 .1, turn .inv .same-length),
+      ),
+    )
+
+add-next : tie.Need-add-next Inv-loop μ-loop
+add-next c =
+    let back = c .before .before .before .before in
+    let turn = back .before .before .loop in
+    let start = back .before .before .before .before in
+    omega (arith, back .ones-of .ensures, room-for-byte (turn .inv) (byte-of (back .before)), start .pre .1 .0, start .pre .1 .1)
+
+add-passed : tie.Need-add-passed Inv-loop μ-loop
+add-passed c = omega (arith, byte-of (c .before .before .before .before .before) .fits)
+
+add-passed-2 : tie.Need-add-passed-2 Inv-loop μ-loop
+add-passed-2 c = omega (arith, byte-of (c .before .before .before .before .before) .fits)
 
 loop-less : tie.Need-loop-less Inv-loop μ-loop
-loop-less c = omega (arith, and-le-r (c .before .loop .rest) (c .before .loop .rest - 1))
+loop-less c =
+    let rest = c .before .before .before .before .before .before .loop .rest in
+    omega (arith, div-le-self rest (2 ^ (trailingZeros 64 rest / 8 * 8)))
 
 loop-again : tie.Need-loop-again Inv-loop μ-loop
 loop-again c =
-    let turn = c .before .loop in
-    let start = c .before .before .args in
-    let places = placesIn 64 (start .word) in
-    let after = next c in
-    let so-far = map (λ p. start .first + p) (take (turn .many) places) in
-    let long = length-map (take (turn .many) places) (λ p. start .first + p) ∙ length-take-le (turn .many) places (omega arith) in (
-      omega (arith, and-le-r (turn .rest) (turn .rest - 1)),
-      omega (arith, after .inside),
-      after .left,
-      rw (after .taken, map-append (λ p. start .first + p) (take (turn .many) places))
-          (filled-store (start .out .now) (start .at) so-far _ _ (turn .inv .3) (omega arith) (omega arith)),
-    )
+    let back = c .before .before .before .before in
+    let turn = back .before .before .loop in
+    rw (back .ones-of .ensures) (byte-passed (turn .inv) (byte-of (back .before)) (c .before .before .put-byte .ensures))
 
 same-length : tie.Need-same-length Inv-loop μ-loop
-same-length c = c .before .loop .inv .3 .same-length
+same-length c = c .before .loop .inv .same-length
 
 returns : tie.Need-returns Inv-loop μ-loop
-returns c =
-    let turn = c .before .loop in
-    let start = c .before .before .args in
-    let places = placesIn 64 (start .word) in
-    let none : turn .rest ≡ 0 = omega arith in
-    let left : length places - turn .many ≡ 0 =
-    sym (length-drop (turn .many) places) ∙ ap length (turn .inv .2 ∙ ap (placesIn 64) none ∙ none-in-zero 64) in
-    let all : take (turn .many) places ≡ places = take-all (turn .many) places (omega arith) in
-    record {
-      put = turn .inv .3 .filled ∙ rw all;
-      counted = omega arith;
-    }
+returns c = all-passed (c .before .loop .inv) (omega arith)
 
 pub put-word-spec : {M : Type 1} → statement M
 put-word-spec =
@@ -119,12 +97,17 @@ put-word-spec =
     Inv-loop
     μ-loop
     loop-holds
-    add-out
-    add-out-2
-    mul-out
-    slice-write-out
-    add-many
-    sub-rest
+    mul-zeros
+    cast-rest
+    shr-rest
+    cast-byte
+    ones-of-requires
+    add-row
+    add-row-2
+    put-byte-requires
+    add-next
+    add-passed
+    add-passed-2
     loop-less
     loop-again
     same-length

@@ -1,29 +1,21 @@
--- `rows::write_bytes` meets its contract: the rows of the bytes passed stand at the front, and from the end on nothing is changed.
--- Assumes nothing.
-use Prim.Native.Nat.{ℕ, _-_, _*_, _≤_}
+-- `rows::write_bytes` meets its contract: each turn writes the rows of one byte more. Assumes nothing.
+use Prim.Native.Nat.{_-_, _≤_}
 use native.Mathlib.Omega.{arith}
-use mathlib.Core.Path.{_≡_, refl, sym, ap, ap₂, _∙_}
-use mathlib.Core.List.{List, _++_}
-use lib.ListN.{length, take, drop, take-append-drop}
 use borrow.Author.Needs.{needs}
-use Rattle.basis.proofs.Buffers.{laid-front}
-use Rattle.rows.specs.RowList.{markedBelow}
-use Rattle.rows.proofs.ByteByByte.{one-more-byte, one-more-counted, next-fits}
+use lib.ListN.{length}
+use Rattle.rows.proofs.ByteByByte.{next-fits}
+use Rattle.rows.proofs.Written.{Written, none-written, byte-written, all-written}
 use Rattle.rows.proofs.write_bytes.Statement.{statement}
 use Rattle.rows.proofs.write_bytes.Tie as tie
 
 abbrev Inv-loop : tie.InvT-loop
-Inv-loop positions bits all out₀ at₀ i₀ out at i =
-    (i ≤ length bits) ×
-    ((at ≡ length (markedBelow (8 * i) bits)) ×
-    ((take at out ≡ markedBelow (8 * i) bits) × ((drop all out ≡ drop all out₀) × (length out ≡ length out₀))))
+Inv-loop positions bits all out₀ at₀ i₀ out at i = (i ≤ length bits) × Written bits all out₀ out at i
 
 abbrev μ-loop : tie.MeasureT-loop
 μ-loop positions bits all out₀ at₀ i₀ out at i = length bits - i
 
 loop-holds : tie.Need-loop-holds Inv-loop μ-loop
-unfolding markedBelow
-loop-holds c = (omega arith, (refl, (refl, (refl, refl))))
+loop-holds c = (omega arith, none-written _ _ _)
 
 shared-slice-read-byte : tie.Need-shared-slice-read-byte Inv-loop μ-loop
 shared-slice-read-byte c = omega arith
@@ -42,8 +34,14 @@ put-byte-requires c κs =
     let start = c .before .before .before .before .before .before .before in
     let turn = c .before .before .before .before .loop in
     let fits = next-fits (start .args .bits .now) (start .args .all) (turn .i) (omega arith) (omega (arith, start .pre .1 .0)) in
-    let ones = c .before .ones-of .ensures in
-    ((start .pre .0 .0, ones), (omega arith, omega (arith, fits, ones, turn .inv .1 .0), omega (arith, start .pre .1 .1, turn .inv .1 .1 .1 .1)))
+    let ones = c .before .ones-of .ensures in (
+      (start .pre .0 .0, ones),
+      (
+        omega arith,
+        omega (arith, fits, ones, turn .inv .1 .counted),
+        omega (arith, start .pre .1 .1, turn .inv .1 .same-length),
+      ),
+    )
 
 add-at : tie.Need-add-at Inv-loop μ-loop
 add-at c =
@@ -51,7 +49,7 @@ add-at c =
     let turn = back .before .before .before .loop in
     let start = back .before .before .before .before .before .before in
     let fits = next-fits (start .args .bits .now) (start .args .all) (turn .i) (omega arith) (omega (arith, start .pre .1 .0)) in
-    omega (arith, fits, back .ones-of .ensures, turn .inv .1 .0)
+    omega (arith, fits, back .ones-of .ensures, turn .inv .1 .counted)
 
 add-i : tie.Need-add-i Inv-loop μ-loop
 add-i c = omega arith
@@ -63,37 +61,13 @@ loop-again : tie.Need-loop-again Inv-loop μ-loop
 loop-again c =
     let back = c .before .before .before .before in
     let turn = back .before .before .before .loop in
-    let start = back .before .before .before .before .before .before in
-    let bits = start .args .bits .now in
-    let ones = back .ones-of .ensures in
-    let put = c .before .before .put-byte .ensures in (
-      omega arith,
-      (
-        omega (arith, turn .inv .1 .0, ones, one-more-counted bits (turn .i)),
-        (
-          rw ones (put .front ∙ rw (turn .inv .1 .1 .0) (sym (one-more-byte bits (turn .i)))),
-          (put .behind ∙ turn .inv .1 .1 .1 .0, put .same-length ∙ turn .inv .1 .1 .1 .1),
-        ),
-      ),
-    )
+    (omega arith, rw (back .ones-of .ensures) (byte-written (turn .inv .1) (c .before .before .put-byte .ensures)))
 
 same-length : tie.Need-same-length Inv-loop μ-loop
-same-length c = c .before .loop .inv .1 .1 .1 .1
+same-length c = c .before .loop .inv .1 .same-length
 
 returns : tie.Need-returns Inv-loop μ-loop
-returns c =
-    let turn = c .before .loop in
-    let start = c .before .before .before .before in
-    let bits = start .args .bits .now in
-    let out = start .args .out .now in
-    let list = markedBelow (8 * length bits) bits in
-    let all : turn .i ≡ length bits = omega arith in
-    let end : turn .at ≡ start .args .all = turn .inv .1 .0 ∙ ap (λ (n : ℕ). length (markedBelow (8 * n) bits)) all ∙ sym (start .pre .1 .0) in
-    let front : take (start .args .all) (turn .out) ≡ list =
-    ap (λ (n : ℕ). take n (turn .out)) (sym end) ∙ turn .inv .1 .1 .0 ∙ ap (λ (n : ℕ). markedBelow (8 * n) bits) all in
-    sym (take-append-drop (start .args .all) (turn .out))
-    ∙ ap₂ (λ (a b : List ℕ). a ++ b) front (turn .inv .1 .1 .1 .0 ∙ ap (λ (n : ℕ). drop n out) (start .pre .1 .0))
-    ∙ sym (laid-front out 0 list)
+returns c = all-written (c .before .loop .inv .1) (omega arith) (c .before .before .before .before .pre .1 .0)
 
 pub write-bytes-spec : {M : Type 1} → statement M
 write-bytes-spec =

@@ -1,27 +1,21 @@
--- `rows::write_words` meets its contract: the rows of the bytes passed stand at the front, and with the last few those of all.
+-- `rows::write_words` meets its contract: each turn writes the rows of eight bytes more, and the last step those of the bytes left.
 -- Assumes nothing.
-use Prim.Native.Nat.{ℕ, _+_, _-_, _*_, _≤_}
+use Prim.Native.Nat.{_-_, _≤_}
 use native.Mathlib.Omega.{arith}
-use mathlib.Core.Path.{_≡_, refl, ap, _∙_}
-use borrow.Author.Needs.{needs}
 use lib.ListN.{length}
-use Rattle.basis.specs.Buffers.{laid}
-use Rattle.basis.proofs.Buffers.{Filled, filled-nothing}
-use Rattle.rows.specs.RowList.{markedBelow}
-use Rattle.rows.proofs.Words.{count-of-word, room-for-word, word-filled}
+use Rattle.rows.proofs.Words.{room-for-word}
+use Rattle.rows.proofs.Written.{Written, none-written, word-written, all-written}
 use Rattle.rows.proofs.write_words.Statement.{statement}
 use Rattle.rows.proofs.write_words.Tie as tie
 
 abbrev Inv-loop : tie.InvT-loop
-Inv-loop bits out₀ at₀ i₀ out at i =
-    (i ≤ length bits) × (at ≡ length (markedBelow (8 * i) bits)) × Filled out₀ 0 (markedBelow (8 * i) bits) out
+Inv-loop positions bits all out₀ at₀ i₀ out at i = (i ≤ length bits) × Written bits all out₀ out at i
 
 abbrev μ-loop : tie.MeasureT-loop
-μ-loop bits out₀ at₀ i₀ out at i = length bits - i
+μ-loop positions bits all out₀ at₀ i₀ out at i = length bits - i
 
 loop-holds : tie.Need-loop-holds Inv-loop μ-loop
-unfolding markedBelow
-loop-holds c = (omega arith, refl, filled-nothing _ _)
+loop-holds c = (omega arith, none-written _ _ _)
 
 add-loop : tie.Need-add-loop Inv-loop μ-loop
 add-loop c = omega arith
@@ -39,18 +33,10 @@ put-word-requires : tie.Need-put-word-requires Inv-loop μ-loop
 put-word-requires c κs =
     let turn = c .before .before .before .loop in
     let start = c .before .before .before .before .before .before in
-    let word = c .before .word-at in
-    let room = room-for-word (word .ensures) _ (omega arith) (start .pre .1) in
-    (omega arith, omega (arith, room, turn .inv .1, turn .inv .2 .same-length))
-
-add-at : tie.Need-add-at Inv-loop μ-loop
-add-at c =
-    let put = c .before .before in
-    let word = put .before .before .word-at in
-    let turn = put .before .before .before .before .loop in
-    let start = put .before .before .before .before .before .before .before in
-    let room = room-for-word (word .ensures) _ (omega arith) (start .pre .1) in
-    omega (arith, room, turn .inv .1, put .put-word .ensures .counted)
+    let room = room-for-word (c .before .word-at .ensures) (start .args .all) (omega arith) (omega (arith, start .pre .1 .0)) in (
+      (start .pre .0 .0, omega arith),
+      (omega (arith, room, turn .inv .1 .counted), omega (arith, start .pre .1 .1, turn .inv .1 .same-length)),
+    )
 
 add-i : tie.Need-add-i Inv-loop μ-loop
 add-i c = omega arith
@@ -61,13 +47,8 @@ loop-less c = omega arith
 loop-again : tie.Need-loop-again Inv-loop μ-loop
 loop-again c =
     let put = c .before .before in
-    let word = put .before .before .word-at in
     let turn = put .before .before .before .before .loop in
-    let start = put .before .before .before .before .before .before .before in (
-      omega arith,
-      omega (arith, turn .inv .1, put .put-word .ensures .counted, count-of-word (word .ensures)),
-      word-filled (word .ensures) _ _ (omega arith) (start .pre .1) (turn .inv .1) (turn .inv .2) (put .put-word .ensures .put),
-    )
+    (omega arith, word-written (turn .inv .1) (put .before .before .word-at .ensures) (put .put-word .ensures))
 
 sub-word-at : tie.Need-sub-word-at Inv-loop μ-loop
 sub-word-at c = omega arith
@@ -85,24 +66,24 @@ put-word-requires-2 : tie.Need-put-word-requires-2 Inv-loop μ-loop
 put-word-requires-2 c κs =
     let turn = c .before .before .before .loop in
     let start = c .before .before .before .before .before .before in
-    let word = c .before .word-at2 in
-    let room = room-for-word (word .ensures) _ (omega arith) (start .pre .1) in
-    (omega arith, omega (arith, room, turn .inv .1, turn .inv .2 .same-length))
+    let room = room-for-word (c .before .word-at2 .ensures) (start .args .all) (omega arith) (omega (arith, start .pre .1 .0)) in (
+      (start .pre .0 .0, omega arith),
+      (omega (arith, room, turn .inv .1 .counted), omega (arith, start .pre .1 .1, turn .inv .1 .same-length)),
+    )
 
 same-length : tie.Need-same-length Inv-loop μ-loop
-same-length c = search needs
+same-length c =
+    let put = c .before .before in
+    let turn = put .before .before .before .before .loop in
+    word-written (turn .inv .1) (put .before .before .word-at2 .ensures) (put .put-word2 .ensures) .same-length
 
 returns : tie.Need-returns Inv-loop μ-loop
 returns c =
     let put = c .before .before in
-    let word = put .before .before .word-at2 in
     let turn = put .before .before .before .before .loop in
     let start = put .before .before .before .before .before .before .before in
-    let bits = start .args .bits .now in
-    let left = length bits - turn .i in
-    let all : turn .i + left ≡ length bits = omega arith in
-    let done = word-filled (word .ensures) _ _ (omega arith) (start .pre .1) (turn .inv .1) (turn .inv .2) (put .put-word2 .ensures .put) in
-    done .filled ∙ ap (λ (n : ℕ). laid (start .args .out .now) 0 (markedBelow (8 * n) bits)) all
+    let done = word-written (turn .inv .1) (put .before .before .word-at2 .ensures) (put .put-word2 .ensures) in
+    all-written done (omega arith) (start .pre .1 .0)
 
 pub write-words-spec : {M : Type 1} → statement M
 write-words-spec =
@@ -116,7 +97,6 @@ write-words-spec =
     mul-put-word
     cast-put-word
     put-word-requires
-    add-at
     add-i
     loop-less
     loop-again
