@@ -148,13 +148,13 @@ fn ones_of(byte: u8) -> usize
 }
 
 // Writes the rows of all set bits, of which there are so many, to the front, byte after byte. Where
-// fewer than one bit in sixteen is set it leaves the bytes of 0 out.
+// they are so few that five bytes of six are 0 it leaves those out.
 fn write_rows(positions: &[u8; 2048], bits: &[u8], all: usize, out: &mut [u32])
     requires { ⌜ HoldsPlaces (now positions) × (length (now bits) ≤ mostRows) ⌝ }
     requires { ⌜ (all ≡ length (markedBelow (8 * length (now bits)) (now bits))) × (all ≤ length (now out)) ⌝ }
     ensures { λ _. ⌜ now (out .exit) ≡ laid (now (out .entry)) 0 (markedBelow (8 * length (now (bits .entry))) (now (bits .entry))) ⌝ }
 {
-    if all < bits.len() / 2 {
+    if all < bits.len() / 6 {
         write_words(positions, bits, all, out);
         return;
     }
