@@ -11,9 +11,8 @@ use Rattle.codes.proofs.Width.{slices-at-most-four}
 use Rattle.register.specs.Limits.{mostRows}
 use Rattle.register.specs.Layout.{slicesBefore, bytesBefore}
 use Rattle.register.proofs.Directory.{few-bytes}
-use Rattle.writer.specs.Layout.{widthOf}
-use Rattle.writer.specs.Steps.{FitWidths}
-use Rattle.writer.proofs.Columns.{narrow}
+use Rattle.judging.specs.Table.{widthOf, FitWidths}
+use Rattle.judging.proofs.Columns.{narrow}
 
 module _ (widths : List ℕ) (fit : FitWidths widths) (column : ℕ) (within : column ≤ length widths) where
   pub few-slices : slicesBefore (widthOf widths) column ≤ 4 * column

@@ -18,11 +18,13 @@ use Rattle.basis.proofs.Runs.{in-below}
 use Rattle.codes.specs.Width.{unfitWidth, slicesOf}
 use Rattle.register.specs.Layout.{slicesBefore, bytesBefore}
 use Rattle.register.specs.File.{entryIn, offsetOf, widthIn, offsetIn, unfitEntry, unfitColumn}
-use Rattle.writer.specs.Layout.{widthOf, bodyOf, entryWith, directoryOf, trailerOf, fileOf}
-use Rattle.writer.specs.Steps.{FitWidths, FitCodes}
-use Rattle.writer.proofs.Lengths.{entryOf, length-bodyOf, length-entryWith, length-entries}
-use Rattle.writer.proofs.Parts.{PartAt, part-itself, part-in-front, part-behind, part-cut, number-of-part}
-use Rattle.writer.proofs.Joined.{joined-part}
+use Rattle.judging.specs.Table.{widthOf, FitWidths, FitCodes}
+use Rattle.slicing.specs.Body.{bodyOf}
+use Rattle.writer.specs.Layout.{entryWith, directoryOf, trailerOf, fileOf}
+use Rattle.slicing.proofs.Lengths.{length-bodyOf}
+use Rattle.writer.proofs.Lengths.{entryOf, length-entryWith, length-entries}
+use Rattle.slicing.proofs.Parts.{PartAt, part-itself, part-in-front, part-behind, part-cut, number-of-part}
+use Rattle.slicing.proofs.Joined.{joined-part}
 use Rattle.roundtrip.proofs.Sizes.{bytes-fit}
 use Rattle.roundtrip.proofs.WrittenTrailer.{written-rows, written-directory}
 

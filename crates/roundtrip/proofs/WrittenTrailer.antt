@@ -15,10 +15,11 @@ use Rattle.basis.specs.Numbers.{little, toLittle, numberAt}
 use Rattle.basis.proofs.Numbers.{length-toLittle}
 use Rattle.register.specs.Layout.{bytesBefore}
 use Rattle.register.specs.File.{trailerIn, rowsIn, columnsIn, versionIn, directoryIn, markIn, markBytes, mark}
-use Rattle.writer.specs.Layout.{widthOf, bodyOf, directoryOf, trailerWith, trailerOf, fileOf}
-use Rattle.writer.specs.Steps.{FitWidths, FitCodes}
+use Rattle.judging.specs.Table.{widthOf, FitWidths, FitCodes}
+use Rattle.slicing.specs.Body.{bodyOf}
+use Rattle.writer.specs.Layout.{directoryOf, trailerWith, trailerOf, fileOf}
 use Rattle.writer.proofs.Lengths.{length-trailerWith}
-use Rattle.writer.proofs.Parts.{PartAt, part-itself, part-first, part-behind, part-cut, number-of-part}
+use Rattle.slicing.proofs.Parts.{PartAt, part-itself, part-first, part-behind, part-cut, number-of-part}
 use Rattle.roundtrip.proofs.Sizes.{bytes-fit}
 
 -- the numbers of a trailer, each behind those before it

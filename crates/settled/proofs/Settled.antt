@@ -11,7 +11,8 @@ use Rattle.register.specs.Layout.{slicesBefore}
 use Rattle.register.specs.File.{trailerIn, entryIn, mark, widthIn, offsetIn, unfitEntry, unfitColumn}
 use Rattle.register.specs.Cells.{byteAt}
 use Rattle.register.specs.Opening as opens
-use Rattle.writer.specs.Layout.{sliceOf, columnOf, bodyOf, entryWith, directoryOf, trailerWith, trailerOf, fileLength, fileOf}
+use Rattle.slicing.specs.Body.{sliceOf, columnOf, bodyOf}
+use Rattle.writer.specs.Layout.{entryWith, directoryOf, trailerWith, trailerOf, fileLength, fileOf}
 use Rattle.writer.specs.Writing as writes
 use Rattle.schedule.specs.Segments.{segmentCount, segment, segments}
 use Rattle.schedule.specs.Schedule.{standing, ruledOut, keepsOpen, counts, countIn, count, total, found, matches}

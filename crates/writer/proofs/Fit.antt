@@ -19,9 +19,9 @@ use Rattle.codes.specs.Width.{unfitWidth, tooLarge}
 use Rattle.register.specs.Limits.{mostRows, mostColumns}
 use Rattle.register.specs.Answers.{refusal}
 use Rattle.writer.specs.declared.Written.the-variants.{Bytes, Refused}
-use Rattle.writer.specs.Layout.{widthOf, fileLength}
-use Rattle.writer.specs.Steps.{FitWidths, FitCodes}
-use Rattle.writer.specs.Writing.{firstUnfit, firstTooLarge, writeLines, writtenOf}
+use Rattle.judging.specs.Table.{widthOf, FitWidths, FitCodes, firstUnfit, firstTooLarge}
+use Rattle.writer.specs.Layout.{fileLength}
+use Rattle.writer.specs.Writing.{writeLines, writtenOf}
 use Rattle.writer.proofs.Writing as writing
 
 pub widths-fit : (widths : List ℕ) → (length widths ≡ 0 → ⊥) → length widths ≤ mostColumns → length widths ≤ firstUnfit widths →

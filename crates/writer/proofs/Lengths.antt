@@ -1,9 +1,4 @@
 -- How long the parts of a file are, whatever the widths and the codes. Assumes nothing.
---   length-sliceOf        a slice has a byte a row
---   length-slices         so many slices of a column
---   length-columnOf       a column has its slices
---   length-columns        the columns before one
---   length-bodyOf         the body has all of them
 --   entryOf               the directory's entry for a column
 --   length-entryWith      an entry has 8 bytes
 --   length-entries        so many entries
@@ -14,36 +9,14 @@ use Prim.Native.Nat.{ℕ, _*_}
 use native.Mathlib.Omega.{arith}
 use mathlib.Core.Path.{_≡_, _∙_}
 use mathlib.Core.List.{List, map, flatten}
-use lib.ListN.{length, length-append, length-map}
+use lib.ListN.{length, length-append}
 use Rattle.basis.specs.Lists.{below}
-use Rattle.basis.proofs.Lists.{length-run, length-flatten, sum-of-same, sum-scaled}
+use Rattle.basis.proofs.Lists.{length-flatten, sum-of-same}
 use Rattle.basis.proofs.Numbers.{length-toLittle}
-use Rattle.codes.specs.Width.{slicesOf}
-use Rattle.register.specs.Layout.{slicesBefore, bytesBefore}
-use Rattle.writer.specs.Layout.{widthOf, sliceOf, columnOf, bodyOf, entryWith, directoryOf, trailerWith, trailerOf, fileLength, fileOf}
-
-module _ (rows : ℕ) (widths codes : List ℕ) where
-  pub length-sliceOf : (column slice : ℕ) → length (sliceOf rows widths codes column slice) ≡ rows
-  unfolding sliceOf
-  length-sliceOf column slice = length-map (below rows) _ ∙ length-run 0 rows
-
-  pub length-slices : (column n : ℕ) → length (flatten (map (sliceOf rows widths codes column) (below n))) ≡ rows * n
-  length-slices column n =
-      length-flatten (sliceOf rows widths codes column) (λ slice. rows) (length-sliceOf column) n ∙ sum-of-same rows n
-
-  pub length-columnOf : (column : ℕ) → length (columnOf rows widths codes column) ≡ rows * slicesOf (widthOf widths column)
-  unfolding columnOf
-  length-columnOf column = length-slices column (slicesOf (widthOf widths column))
-
-  pub length-columns : (n : ℕ) → length (flatten (map (columnOf rows widths codes) (below n))) ≡ bytesBefore rows (widthOf widths) n
-  unfolding slicesBefore
-  length-columns n =
-      let slices : ℕ → ℕ = λ column. slicesOf (widthOf widths column) in
-      length-flatten (columnOf rows widths codes) (λ column. rows * slices column) length-columnOf n ∙ sum-scaled rows slices n
-
-  pub length-bodyOf : length (bodyOf rows widths codes) ≡ bytesBefore rows (widthOf widths) (length widths)
-  unfolding bodyOf
-  length-bodyOf = length-columns (length widths)
+use Rattle.register.specs.Layout.{bytesBefore}
+use Rattle.judging.specs.Table.{widthOf}
+use Rattle.slicing.proofs.Lengths.{length-bodyOf}
+use Rattle.writer.specs.Layout.{entryWith, directoryOf, trailerWith, trailerOf, fileLength, fileOf}
 
 pub length-entryWith : (width offset : ℕ) → length (entryWith width offset) ≡ 8
 unfolding entryWith

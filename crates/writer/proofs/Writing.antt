@@ -25,7 +25,8 @@ use Rattle.writer.specs.declared.Written.{Written}
 use Rattle.writer.specs.declared.Written.the-variants.{Bytes, Refused}
 use Rattle.writer.specs.Layout.{fileLength, fileOf}
 use Rattle.writer.specs.Answers.{shownOf}
-use Rattle.writer.specs.Writing.{firstUnfit, firstTooLarge, writeLines, writtenOf, shownFor, leftIn}
+use Rattle.judging.specs.Table.{firstUnfit, firstTooLarge}
+use Rattle.writer.specs.Writing.{writeLines, writtenOf, shownFor, leftIn}
 
 -- the line that answers
 abbrev pub answering : ℕ → List ℕ → List ℕ → ℕ → Option Line

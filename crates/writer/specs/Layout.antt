@@ -1,34 +1,13 @@
 -- The one file of a register: rows, the widths of its columns, and its codes row after row. Assumes nothing.
 use Prim.Native.Nat.{ℕ, _+_, _*_}
 use mathlib.Core.List.{List, _∷_, _++_, map, flatten}
-use lib.ListN.{length, getD}
+use lib.ListN.{length}
 use Rattle.basis.specs.Lists.{below}
 use Rattle.basis.specs.Numbers.{toLittle}
-use Rattle.codes.specs.Width.{slicesOf}
-use Rattle.codes.specs.Bytes.{byteOf}
 use Rattle.register.specs.Layout.{bytesBefore}
 use Rattle.register.specs.File.{markBytes}
-
--- the width of a column
-abbrev pub widthOf : List ℕ → ℕ → ℕ
-widthOf widths column = getD widths column 0
-
--- the code of a row in a column, codes standing row after row
-abbrev pub codeOf : List ℕ → List ℕ → ℕ → ℕ → ℕ
-codeOf widths codes row column = getD codes (row * length widths + column) 0
-
-module _ (rows : ℕ) (widths codes : List ℕ) where
-  -- a slice of a column: its byte of every row, in row order
-  unfoldable pub sliceOf : ℕ → ℕ → List ℕ
-  sliceOf column slice = map (λ row. byteOf (widthOf widths column) (codeOf widths codes row column) slice) (below rows)
-
-  -- a column: its slices in their order
-  unfoldable pub columnOf : ℕ → List ℕ
-  columnOf column = flatten (map (sliceOf column) (below (slicesOf (widthOf widths column))))
-
-  -- the body: the slices of column 0, then of column 1, and so on
-  unfoldable pub bodyOf : List ℕ
-  bodyOf = flatten (map columnOf (below (length widths)))
+use Rattle.judging.specs.Table.{widthOf}
+use Rattle.slicing.specs.Body.{bodyOf}
 
 -- an entry of the directory: width, three zero bytes, offset of the column's slice 1 (4 bytes)
 unfoldable pub entryWith : ℕ → ℕ → List ℕ

@@ -2,5 +2,3 @@
 pub mod Layout
 pub mod Answers
 pub mod Writing
-pub mod Steps
-pub mod Judging

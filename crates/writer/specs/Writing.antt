@@ -1,27 +1,17 @@
 -- Writing a register: refusals 3, 4, 6, 9, 8, 10 in that order, or its file. Assumes nothing.
-use Prim.Native.Nat.{ℕ, _*_, _%_}
+use Prim.Native.Nat.{ℕ, _*_}
 use mathlib.Core.List.{List, [], _∷_}
 use mathlib.Core.Bool.{not, _||_}
 use lib.Dec.{ltb, eqb}
-use lib.ListN.{length, getD}
-use Rattle.basis.specs.Places.{firstPlace}
+use lib.ListN.{length}
 use Rattle.basis.specs.Refusals.{Line, refuse, refuseAt, refuseFor, firstLine, answerBy, shownBy}
 use Rattle.basis.specs.Buffers.{laid}
-use Rattle.codes.specs.Width.{unfitWidth, tooLarge}
 use Rattle.register.specs.Limits.{mostRows, mostColumns}
 use Rattle.register.specs.Answers.{refusal}
+use Rattle.judging.specs.Table.{firstUnfit, firstTooLarge}
 use Rattle.writer.specs.declared.Written.{Written}
 use Rattle.writer.specs.declared.Written.the-variants.{Bytes, Refused}
-use Rattle.writer.specs.Layout.{widthOf, fileOf, fileLength}
-
--- the lowest column whose width fits no column
-abbrev pub firstUnfit : List ℕ → ℕ
-firstUnfit widths = firstPlace (λ column. unfitWidth (widthOf widths column)) (length widths)
-
--- the lowest index of a code that is not below 2^k, k being the width of its column
-abbrev pub firstTooLarge : List ℕ → List ℕ → ℕ
-firstTooLarge widths codes =
-    firstPlace (λ i. tooLarge (widthOf widths (i % length widths)) (getD codes i 0)) (length codes)
+use Rattle.writer.specs.Layout.{fileOf, fileLength}
 
 module _ (rows : ℕ) (widths codes : List ℕ) (room : ℕ) where
   -- 3: too many rows

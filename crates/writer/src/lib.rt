@@ -1,8 +1,5 @@
 // Writes a register's file into a lent buffer: rows of codes become slices, one after the other,
 // and the directory and the trailer follow. Nothing is stored besides.
-mod judging;
-mod slicing;
-
 use register::MOST_COLUMNS;
 use register::MOST_ROWS;
 use register::Refusal;
@@ -13,10 +10,10 @@ ghost use Rattle.basis.specs.Buffers.{laid};
 ghost use Rattle.basis.specs.Numbers.{toLittle};
 ghost use Rattle.register.specs.Layout.{slicesBefore, bytesBefore};
 ghost use Rattle.register.specs.Limits.{mostRows};
-ghost use Rattle.writer.specs.Layout.{widthOf, entryWith, directoryOf, trailerWith, fileOf};
-ghost use Rattle.writer.specs.Steps.{FitWidths, FitCodes};
+ghost use Rattle.judging.specs.Table.{widthOf, FitWidths, FitCodes};
+ghost use Rattle.writer.specs.Layout.{entryWith, directoryOf, trailerWith, fileOf};
 ghost use Rattle.writer.specs.Answers.{refusedWith, shownOf};
-ghost use Rattle.writer.specs.Writing.{firstUnfit, writtenOf, shownFor, leftIn};
+ghost use Rattle.writer.specs.Writing.{writtenOf, shownFor, leftIn};
 
 // The answer to writing: how many bytes the file has, or the refusal.
 pub enum Written {
@@ -41,7 +38,7 @@ pub fn write(rows: usize, widths: &[u8], codes: &[u64], out: &mut [u8]) -> Writt
     if MOST_COLUMNS < columns {
         return refused(4, 0, 0);
     }
-    let unfit = first_unfit(widths);
+    let unfit = judging::first_unfit(widths);
     if unfit < columns {
         return refused(6, unfit, 0);
     }
@@ -69,20 +66,6 @@ fn refused(number: usize, place: usize, need: usize) -> Written
         place,
         need,
     })
-}
-
-// The lowest column whose width fits none, or the number of columns.
-fn first_unfit(widths: &[u8]) -> usize
-    ensures { λ r. ⌜ r ≡ firstUnfit (now (widths .entry)) ⌝ }
-{
-    let mut column = 0;
-    while column < widths.len() {
-        if codes::unfit_width(widths[column]) {
-            return column;
-        }
-        column = column + 1;
-    }
-    column
 }
 
 // How many slices all columns have.

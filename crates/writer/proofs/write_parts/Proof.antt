@@ -8,8 +8,11 @@ use lib.ListN.{length, length-append}
 use Rattle.basis.specs.Buffers.{laid}
 use Rattle.basis.proofs.Buffers.{filled-at-once, filled-more}
 use Rattle.register.specs.Layout.{bytesBefore}
-use Rattle.writer.specs.Layout.{widthOf, bodyOf, directoryOf, trailerWith, trailerOf, fileOf}
-use Rattle.writer.proofs.Lengths.{length-bodyOf, length-directoryOf, length-trailerWith}
+use Rattle.judging.specs.Table.{widthOf}
+use Rattle.slicing.specs.Body.{bodyOf}
+use Rattle.writer.specs.Layout.{directoryOf, trailerWith, trailerOf, fileOf}
+use Rattle.slicing.proofs.Lengths.{length-bodyOf}
+use Rattle.writer.proofs.Lengths.{length-directoryOf, length-trailerWith}
 use Rattle.writer.proofs.write_parts.Statement.{statement}
 use Rattle.writer.proofs.write_parts.Tie as tie
 

@@ -1,0 +1,3 @@
+-- Codes made into slices.
+pub mod Body
+pub mod Putting
