@@ -15,7 +15,7 @@ use Rattle.basis.proofs.Buffers.{Filled, filled-store}
 use Rattle.basis.proofs.Lists.{joined-one-more, length-flatten, sum-of-same}
 use Rattle.basis.proofs.Runs.{taken-by-number}
 use Rattle.query.specs.declared.Test.{Test}
-use Rattle.query.specs.Tests.{emptySlot}
+use Rattle.query.specs.Tests.{emptySlot, testAt}
 use Rattle.exports.specs.Replies.{slotReply}
 
 pub behind : (start : List ℕ) (at : ℕ) (list : List ℕ) {reply : List ℕ} → Filled start at list reply → length start ≡ at + length list →
@@ -34,11 +34,11 @@ each-number list long = by-number list 16 0 long
 
 -- the slot of test number t
 abbrev pub slotAt : List Test → ℕ → List ℕ
-slotAt tests t = slotReply (getD tests t emptySlot)
+slotAt tests t = slotReply (testAt tests t)
 
 pub each-slot : (tests : List Test) → length tests ≡ 16 → flatten (map (slotAt tests) (below 16)) ≡ flatten (map slotReply tests)
 each-slot tests long =
-    ap flatten (sym (map-map slotReply (λ t. getD tests t emptySlot) (below 16)) ∙ ap (map slotReply) (by-number tests 16 emptySlot long))
+    ap flatten (sym (map-map slotReply (testAt tests) (below 16)) ∙ ap (map slotReply) (by-number tests 16 emptySlot long))
 
 -- slots before number t are three numbers each
 slots-long : (tests : List Test) (t : ℕ) → length (flatten (map (slotAt tests) (below t))) ≡ 3 * t

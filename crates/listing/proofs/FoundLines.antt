@@ -15,9 +15,9 @@ use Rattle.basis.proofs.Those.{those-same}
 use Rattle.register.specs.File.{rowsIn, columnsIn}
 use Rattle.query.specs.declared.Query.{Query}
 use Rattle.query.specs.declared.Test.{Test}
-use Rattle.query.specs.Tests.{mostTests, emptySlot, testsOf}
+use Rattle.query.specs.Tests.{mostTests, emptySlot, testsOf, slotsOf}
 use Rattle.text.specs.declared.Asked.{Asked}
-use Rattle.text.specs.Reading.{Reads, slotsOf, read, too-many, no-segment, no-test}
+use Rattle.text.specs.Reading.{Reads, read, too-many, no-segment, no-test}
 use Rattle.schedule.specs.Schedule.{found}
 use Rattle.schedule.specs.Comparisons.{comparing}
 use Rattle.scan.specs.Scanning.{testsIn, bytesIn}

@@ -1,9 +1,9 @@
 -- A test of a code, and the tests of a query. Assumes nothing.
 use Prim.Native.Nat.{ℕ}
-use mathlib.Core.List.{List}
+use mathlib.Core.List.{List, _++_}
 use mathlib.Core.Bool.{Bool, not}
 use lib.Dec.{ltb, leb, eqb}
-use lib.ListN.{take, getD}
+use lib.ListN.{take, getD, replicate}
 use Rattle.query.specs.declared.Comparison.{Comparison}
 use Rattle.query.specs.declared.Comparison.the-variants.{Less, AtMost, More, AtLeast, Equal, Differs}
 use Rattle.query.specs.declared.Test.{Test}
@@ -42,3 +42,7 @@ emptySlot = record { column = 0; comparison = Less 0 }
 -- the test in a slot
 abbrev pub testAt : List Test → ℕ → Test
 testAt tests t = getD tests t emptySlot
+
+-- the slots of a query of these tests: the tests, and then empty slots
+abbrev pub slotsOf : List Test → List Test
+slotsOf tests = take mostTests (tests ++ replicate mostTests emptySlot)

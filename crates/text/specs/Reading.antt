@@ -2,16 +2,12 @@
 use Prim.Native.Nat.{ℕ, _+_, _<_, _≤_}
 use mathlib.Core.Path.{_≡_}
 use mathlib.Core.List.{List, [], _++_, List·Memᴰ}
-use lib.ListN.{length, take, replicate}
+use lib.ListN.{length}
 use Rattle.query.specs.declared.Test.{Test}
-use Rattle.query.specs.Tests.{mostTests, emptySlot}
+use Rattle.query.specs.Tests.{mostTests, slotsOf}
 use Rattle.text.specs.declared.Asked.{Asked}
 use Rattle.text.specs.Decimals.{decimalLimit}
 use Rattle.text.specs.Lines.{segmentLine, testLine, textOf, SmallTest}
-
--- the slots of a query: its tests, and then slots of column 0, "<", literal 0
-abbrev pub slotsOf : List Test → List Test
-slotsOf tests = take mostTests (tests ++ replicate mostTests emptySlot)
 
 -- an accepted reply: the size and the tests
 abbrev pub accepted : ℕ → List Test → Asked
