@@ -1,5 +1,4 @@
--- The lines of one more column, test or row. Assumes nothing.
---   cell-more    one more cell of a row
+-- The lines of one more test or row. Assumes nothing.
 --   test-more    the line of one more test
 --   marked-line, unmarked-line    the lines of a row alone: its own, or none
 --   row-more     the line of one more row, where its bit is set
@@ -11,18 +10,10 @@ use mathlib.Core.Bool.{true, false}
 use Rattle.basis.specs.Lists.{those, below}
 use Rattle.basis.proofs.Lists.{below-one-more, joined-one-more}
 use Rattle.basis.proofs.Those.{those-joined}
-use Rattle.register.specs.Cells.{codeAt}
 use Rattle.query.specs.declared.Test.{Test}
-use Rattle.text.specs.Decimals.{decimal}
-use Rattle.text.specs.Lines.{space}
 use Rattle.rows.specs.RowList.{marked, markedBelow}
-use Rattle.listing.specs.Lines.{cells, rowLine}
+use Rattle.lines.specs.Lines.{rowLine}
 use Rattle.listing.specs.Listing.{testLineAt, testLines, rowLines}
-
-pub cell-more : (file : List ℕ) (row column : ℕ) →
-    cells file row (column + 1) ≡ cells file row column ++ (space ∷ decimal (codeAt file column row))
-unfolding cells
-cell-more file row column = rw (add-one column) (joined-one-more (λ c. space ∷ decimal (codeAt file c row)) column)
 
 pub test-more : (file : List ℕ) (tests : List Test) (counts : List ℕ) (t : ℕ) →
     testLines file tests counts (t + 1) ≡ testLines file tests counts t ++ testLineAt file tests counts t

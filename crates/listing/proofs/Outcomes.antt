@@ -24,10 +24,10 @@ use Rattle.scan.specs.Refusals.{ownLines}
 use Rattle.scan.specs.Answers.{leftIn}
 use Rattle.scan.proofs.Accepting.{Accepted}
 use Rattle.rows.specs.RowList.{markedBelow}
-use Rattle.listing.specs.Pieces.{Wrote, PieceWritten}
-use Rattle.listing.specs.Lines.{headLine, refusedLine}
+use Rattle.lines.specs.Pieces.{Wrote, PieceWritten}
+use Rattle.lines.specs.Lines.{headLine, refusedLine}
 use Rattle.listing.specs.Listing.{scanFor, testLines, rowLines, answerLines, listingOf}
-use Rattle.listing.proofs.WholePiece.{whole-piece}
+use Rattle.lines.proofs.WholePiece.{whole-piece}
 use Rattle.listing.proofs.Numbered.{refusal-of-line, line-numbered, accepted-at-0}
 use Rattle.listing.proofs.FoundLines.{found-rows}
 

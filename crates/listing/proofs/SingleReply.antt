@@ -6,8 +6,8 @@ use mathlib.Core.Path.{_≡_, sym, _∙_}
 use mathlib.Core.List.{List}
 use mathlib.Core.Bool.{Bool, true, false}
 use Rattle.text.proofs.SingleReply.{single-reply}
-use Rattle.listing.specs.Pieces.{PieceWritten}
-use Rattle.listing.specs.Lines.{refusedLine}
+use Rattle.lines.specs.Pieces.{PieceWritten}
+use Rattle.lines.specs.Lines.{refusedLine}
 use Rattle.listing.specs.Listing.{listingOf, Listed}
 use Rattle.listing.specs.Inputs.{refusal18, ListedRead}
 

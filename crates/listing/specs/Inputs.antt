@@ -4,8 +4,8 @@ use mathlib.Core.List.{List}
 use mathlib.Core.Bool.{Bool, true, false, not, _||_}
 use lib.Dec.{ltb}
 use Rattle.register.specs.declared.Refusal.{Refusal}
-use Rattle.listing.specs.Pieces.{PieceWritten}
-use Rattle.listing.specs.Lines.{refusedLine}
+use Rattle.lines.specs.Pieces.{PieceWritten}
+use Rattle.lines.specs.Lines.{refusedLine}
 use Rattle.listing.specs.Listing.{Listed}
 
 -- a file of more than 65,536 bytes is not taken, nor a text of more than 4,096

@@ -1,6 +1,4 @@
--- The listing: its lines, the whole of it, and a piece of it in a lent buffer.
-pub mod Pieces
-pub mod Lines
+-- The listing, and what the program prints of its inputs.
 pub mod Listing
 pub mod Inputs
 pub mod Steps

@@ -20,8 +20,8 @@ use Rattle.scan.specs.declared.Scanned.{Scanned}
 use Rattle.scan.specs.Scanning.{testsIn, bytesIn}
 use Rattle.scan.specs.Bits.{bytesFor}
 use Rattle.scan.specs.Answers.{scannedOf}
-use Rattle.listing.specs.Pieces.{PieceWritten}
-use Rattle.listing.specs.Lines.{headLine, testLine, rowLine, refusedLine}
+use Rattle.lines.specs.Pieces.{PieceWritten}
+use Rattle.lines.specs.Lines.{headLine, testLine, rowLine, refusedLine}
 
 -- the scan that was asked for, into a result that is long enough for any register
 unfoldable pub scanFor : List ℕ → Asked → Scanned

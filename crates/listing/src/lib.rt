@@ -1,8 +1,5 @@
 // Lists what a query finds in a register: how many rows match, how many bytes each test needed, and
 // each row found with its codes; or why the query is refused.
-mod lines;
-mod pieces;
-
 use lines::head_line;
 use lines::refused_line;
 use lines::row_line;
@@ -19,7 +16,7 @@ ghost use Rattle.register.specs.Opening.{openedOf};
 ghost use Rattle.rows.specs.RowList.{marked, markedBelow};
 ghost use Rattle.basis.specs.Lists.{those};
 ghost use mathlib.Core.List.{[], _∷_};
-ghost use Rattle.listing.specs.Pieces.{Wrote};
+ghost use Rattle.lines.specs.Pieces.{Wrote};
 ghost use Rattle.listing.specs.Listing.{Listed, testLines, rowLines};
 ghost use Rattle.listing.specs.Inputs.{unreadInput, unreadInputs, refusal18, ListedRead};
 ghost use Rattle.listing.specs.Steps.{ColumnsBelow};

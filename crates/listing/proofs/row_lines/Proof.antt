@@ -4,11 +4,11 @@ use native.Mathlib.Omega.{arith}
 use mathlib.Core.Path.{_≡_}
 use mathlib.Core.List.{flatten}
 use Rattle.rows.specs.RowList.{markedBelow}
-use Rattle.listing.specs.Pieces.{Wrote}
+use Rattle.lines.specs.Pieces.{Wrote}
 use Rattle.listing.specs.Listing.{rowLines}
-use Rattle.listing.proofs.Writing.{same-room, wrote-nothing, written-then}
+use Rattle.lines.proofs.Writing.{same-room, wrote-nothing, written-then}
 use Rattle.listing.proofs.OneMore.{row-more}
-use Rattle.listing.proofs.Shapes.{few-rows}
+use Rattle.lines.proofs.Shapes.{few-rows}
 use Rattle.listing.proofs.row_lines.Statement.{statement}
 use Rattle.listing.proofs.row_lines.Tie as tie
 

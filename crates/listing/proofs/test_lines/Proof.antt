@@ -6,11 +6,11 @@ use mathlib.Core.List.{flatten}
 use borrow.Author.Needs.{needs}
 use Rattle.codes.specs.Width.{slicesOf}
 use Rattle.register.specs.Limits.{mostRows}
-use Rattle.listing.specs.Pieces.{Wrote}
+use Rattle.lines.specs.Pieces.{Wrote}
 use Rattle.listing.specs.Listing.{testLines}
-use Rattle.listing.proofs.Writing.{same-room, wrote-nothing, written-then}
+use Rattle.lines.proofs.Writing.{same-room, wrote-nothing, written-then}
 use Rattle.listing.proofs.OneMore.{test-more}
-use Rattle.listing.proofs.Shapes.{same-rows, few-bytes}
+use Rattle.lines.proofs.Shapes.{same-rows, few-bytes}
 use Rattle.listing.proofs.test_lines.Statement.{statement}
 use Rattle.listing.proofs.test_lines.Tie as tie
 

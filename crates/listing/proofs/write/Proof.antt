@@ -11,8 +11,8 @@ use Rattle.scan.specs.declared.Scanned.{Scanned}
 use Rattle.scan.specs.Bits.{bytesFor}
 use Rattle.scan.specs.Answers.{scannedOf}
 use Rattle.listing.specs.Listing.{scanFor}
-use Rattle.listing.proofs.Writing.{written-then}
-use Rattle.listing.proofs.Shapes.{same-rows, same-columns}
+use Rattle.lines.proofs.Writing.{written-then}
+use Rattle.lines.proofs.Shapes.{same-rows, same-columns}
 use Rattle.listing.proofs.FoundLines.{reads-small, columns-below}
 use Rattle.listing.proofs.Outcomes.{accepted-scan, text-refused, not-opened, scan-refused, all-listed}
 use Rattle.listing.proofs.write.Statement.{statement}

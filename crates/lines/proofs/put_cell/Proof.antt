@@ -1,0 +1,25 @@
+-- `lines::put_cell` meets its contract: a space, and the code behind it. Assumes nothing.
+use native.Mathlib.Omega.{arith}
+use borrow.Author.Needs.{needs}
+use Rattle.lines.proofs.Writing.{written-then}
+use Rattle.lines.proofs.put_cell.Statement.{statement}
+use Rattle.lines.proofs.put_cell.Tie as tie
+
+put-requires : tie.Need-put-requires
+put-requires c κs = search needs
+
+put-decimal-requires : tie.Need-put-decimal-requires
+put-decimal-requires c κs = search needs
+
+same-length : tie.Need-same-length
+same-length c = search needs
+
+returns : tie.Need-returns
+returns c =
+    let step2 = c .before .before in
+    let step1 = step2 .before .before .before .before in
+    let line = written-then (step1 .put .ensures) (step2 .put-decimal .ensures .0) in
+    (line, omega (arith, step2 .put-decimal .ensures .1, step1 .put .ensures .behind))
+
+pub put-cell-spec : {M : Type 1} → statement M
+put-cell-spec = tie.close (tie.spec put-requires put-decimal-requires same-length returns)

@@ -1,0 +1,55 @@
+-- `lines::row_line` meets its contract: its word, its number and its cells, one behind the other. Assumes nothing.
+use native.Mathlib.Omega.{arith}
+use borrow.Author.Needs.{needs}
+use Rattle.lines.specs.Lines.{rowLine}
+use Rattle.lines.proofs.Writing.{written-then}
+use Rattle.lines.proofs.Shapes.{same-columns}
+use Rattle.lines.proofs.row_line.Statement.{statement}
+use Rattle.lines.proofs.row_line.Tie as tie
+
+slice-aggregate-put-word : tie.Need-slice-aggregate-put-word
+slice-aggregate-put-word c = search needs
+
+put-word-requires : tie.Need-put-word-requires
+put-word-requires c κs = search needs
+
+put-decimal-requires : tie.Need-put-decimal-requires
+put-decimal-requires c κs = search needs
+
+put-requires : tie.Need-put-requires
+put-requires c κs = search needs
+
+put-cells-requires : tie.Need-put-cells-requires
+put-cells-requires c κs = search needs
+
+put-requires-2 : tie.Need-put-requires-2
+put-requires-2 c κs = search needs
+
+same-length : tie.Need-same-length
+same-length c = search needs
+
+returns : tie.Need-returns
+unfolding rowLine
+returns c =
+    let step5 = c .before .before in
+    let step4 = step5 .before .before .before .before in
+    let step3 = step4 .before .before .before .before in
+    let step2 = step3 .before .before .before .before in
+    let step1 = step2 .before .before .before .before in
+    let start = step1 .before .before .before .before .before in
+    let columns = same-columns _ (start .args .shape) (start .pre .1) in
+    let line = written-then (step1 .put-word .ensures) (written-then (step2 .put-decimal .ensures .0) (written-then (step3 .put .ensures) (written-then (rw columns at (step4 .put-cells .ensures .0)) (step5 .put2 .ensures)))) in
+    (line, omega (arith, step2 .put-decimal .ensures .1, step4 .put-cells .ensures .1, step1 .put-word .ensures .behind, step3 .put .ensures .behind, step5 .put2 .ensures .behind))
+
+pub row-line-spec : {M : Type 1} → statement M
+row-line-spec =
+    tie.close
+    (tie.spec
+    slice-aggregate-put-word
+    put-word-requires
+    put-decimal-requires
+    put-requires
+    put-cells-requires
+    put-requires-2
+    same-length
+    returns)
