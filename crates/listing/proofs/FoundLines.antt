@@ -6,7 +6,7 @@ use Prim.Native.Nat.{ℕ, _≤_}
 use native.Mathlib.Omega.{arith}
 use mathlib.Core.Path.{_≡_, _∙_}
 use mathlib.Core.List.{List, []}
-use lib.ListN.{length, getD, length-take, length-append, length-replicate}
+use lib.ListN.{length, getD, length-take}
 use lib.Seq.{getD-take}
 use Rattle.basis.specs.Lists.{below}
 use Rattle.basis.proofs.Lists.{at-is-member}
@@ -14,8 +14,8 @@ use Rattle.basis.proofs.Runs.{in-below}
 use Rattle.basis.proofs.Those.{those-same}
 use Rattle.register.specs.File.{rowsIn, columnsIn}
 use Rattle.query.specs.declared.Query.{Query}
-use Rattle.query.specs.declared.Test.{Test}
-use Rattle.query.specs.Tests.{mostTests, emptySlot, testsOf, slotsOf}
+use Rattle.query.specs.Tests.{mostTests, emptySlot, testsOf}
+use Rattle.query.proofs.Slots.{length-filled}
 use Rattle.text.specs.declared.Asked.{Asked}
 use Rattle.text.specs.Reading.{Reads, read, too-many, no-segment, no-test}
 use Rattle.schedule.specs.Schedule.{found}
@@ -37,15 +37,11 @@ found-rows file size query out granted =
     those-same (marked (leftIn file size query out)) is (below (rowsIn file))
     (λ row m. rw (bit-left file size query out granted row (in-below (rowsIn file) row m)) (one-or-none (is row)))
 
--- slots are sixteen
-length-slots : (tests : List Test) → length (slotsOf tests) ≡ mostTests
-length-slots tests = rw (length-take, length-append, length-replicate) (omega arith)
-
 pub reads-small : {text : List ℕ} {asked : Asked} → Reads text asked → (asked .query .count ≤ mostTests) × (length (asked .query .tests) ≡ mostTests)
-reads-small (read size tests formed few) = (few, length-slots tests)
-reads-small (too-many size tests formed many) = (omega arith, length-slots [])
-reads-small (no-segment text none) = (omega arith, length-slots [])
-reads-small (no-test size tests rest formed some none) = (omega arith, length-slots [])
+reads-small (read size tests formed few) = (few, length-filled emptySlot mostTests tests)
+reads-small (too-many size tests formed many) = (omega arith, length-filled emptySlot mostTests [])
+reads-small (no-segment text none) = (omega arith, length-filled emptySlot mostTests [])
+reads-small (no-test size tests rest formed some none) = (omega arith, length-filled emptySlot mostTests [])
 
 pub columns-below : (file : List ℕ) (size : ℕ) (query : Query) (room : ℕ) → Accepted file size query room → query .count ≤ mostTests →
     length (query .tests) ≡ mostTests → ColumnsBelow (columnsIn file) (query .tests) (query .count)

@@ -1,1 +1,2 @@
 -- The laws of queries.
+pub mod Slots

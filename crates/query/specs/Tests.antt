@@ -43,6 +43,6 @@ emptySlot = record { column = 0; comparison = Less 0 }
 abbrev pub testAt : List Test → ℕ → Test
 testAt tests t = getD tests t emptySlot
 
--- the slots of a query of these tests: the tests, and then empty slots
-abbrev pub slotsOf : List Test → List Test
-slotsOf tests = take mostTests (tests ++ replicate mostTests emptySlot)
+-- a list in as many slots as a query has, those behind it empty
+abbrev pub slotsOf : {A : Type 0} → A → List A → List A
+slotsOf empty list = take mostTests (list ++ replicate mostTests empty)

@@ -5,7 +5,6 @@
 --   opens               the file opens
 --   few-tests           the tests are at most sixteen
 --   fits, sliced        every test fits the file, and its column has a slice
---   slot                the number of a test stands in the test's slot
 --   counted             so the reply's counts are the schedule's, slot by slot
 use Prim.Native.Nat.{ℕ, zero, suc, _≤_, _<_}
 use native.Mathlib.Omega.{arith}
@@ -14,8 +13,7 @@ use mathlib.Core.List.{List, _++_, map}
 use mathlib.Core.Bool.{false, true≢false}
 use mathlib.Core.Option.{Option, none, some, Option·some-ne-none}
 use borrow.Author.Tests.{ltb-false}
-use lib.ListN.{length, getD, replicate, length-map, length-take, List·getD-append}
-use lib.Seq.{getD-take}
+use lib.ListN.{length, getD, length-map, length-take}
 use Rattle.basis.specs.Refusals.{Line, firstLine}
 use Rattle.basis.proofs.Lists.{mapped-in-place}
 use Rattle.basis.proofs.Members.{_∈_}
@@ -28,12 +26,13 @@ use Rattle.register.specs.Opening.{openLines, openedOf}
 use Rattle.query.specs.declared.Test.{Test}
 use Rattle.query.specs.declared.Query.{Query}
 use Rattle.query.specs.Tests.{mostTests, emptySlot, testsOf, testAt}
+use Rattle.query.proofs.Slots.{filled-at}
 use Rattle.schedule.specs.Schedule.{count}
 use Rattle.schedule.specs.Comparisons.{ColumnTest, comparing}
 use Rattle.scan.specs.declared.Scanned.{Scanned}
 use Rattle.scan.specs.Scanning.{widened, testsIn, bytesIn, segmentsIn}
 use Rattle.scan.specs.Refusals.{unfitSize, testLines, ownLines, scanLines}
-use Rattle.scan.specs.Answers.{slotsOf, accepted, scannedOf}
+use Rattle.scan.specs.Answers.{accepted, scannedOf}
 use Rattle.scan.proofs.Judging.{FitTest, each-test-fits}
 use Rattle.scan.proofs.Planning.{narrow}
 
@@ -54,10 +53,6 @@ neither-answers lines more e = go (firstLine lines) refl
     go : (first : Option Line) → firstLine lines ≡ first → (firstLine lines ≡ none) × (firstLine more ≡ none)
     go none f = (f, sym (first-of-later lines more f) ∙ e)
     go (some line) f = absurd (Option·some-ne-none line (sym (first-of-earlier lines more line f) ∙ e))
-
-pub slot : (numbers : List ℕ) (t : ℕ) → t < length numbers → length numbers ≤ mostTests → getD (slotsOf numbers) t 0 ≡ getD numbers t 0
-slot numbers t h few =
-    getD-take mostTests (numbers ++ replicate mostTests 0) t 0 (omega arith) ∙ List·getD-append numbers (replicate mostTests 0) 0 t h
 
 module _ (file : List ℕ) (size : ℕ) (query : Query) (room : ℕ) (yes : Accepted file size query room) where
   pub reply : scannedOf file size query room ≡ accepted file size query
@@ -109,7 +104,7 @@ module _ (file : List ℕ) (size : ℕ) (query : Query) (room : ℕ) (yes : Acce
       let many : length (testsIn file query) ≡ length (testsOf query) = length-map (testsOf query) (widened file) in
       let long : length numbers ≡ length (testsOf query) = length-map (testsIn file query) _ ∙ many in
       ap (λ (r : Scanned). getD (r .counts) t 0) reply
-      ∙ slot numbers t (omega arith) (omega (arith, few-tests))
+      ∙ filled-at 0 mostTests numbers t (omega arith) (omega (arith, few-tests))
       ∙ mapped-in-place _ (testsIn file query) t (widened file emptySlot) 0 (omega arith)
       ∙ ap (λ (test : ColumnTest). count comparing (bytesIn file) (testsIn file query) test (segmentsIn file size))
       (mapped-in-place (widened file) (testsOf query) t emptySlot (widened file emptySlot) h)

@@ -5,13 +5,12 @@
 --   all-put              and the result holds the bits of all rows
 use Prim.Native.Nat.{ℕ, _≤_, _<_}
 use native.Mathlib.Omega.{arith}
-use native.Mathlib.Nat.{le-dest}
 use mathlib.Core.Path.{_≡_, sym, ap, _∙_}
 use mathlib.Core.Logic.{_⊎_, inl, inr}
-use mathlib.Core.List.{List, _++_, map}
+use mathlib.Core.List.{List, map}
 use mathlib.Core.Bool.{cond}
-use lib.ListN.{length, getD, take, replicate, length-append, length-take, length-map, getD-replicate}
-use lib.Seq.{ext-getD, getD-take, getD-append-add, length-take-le}
+use lib.ListN.{length, getD, take, length-map}
+use lib.Seq.{ext-getD, getD-take, length-take-le}
 use Rattle.basis.specs.Lists.{sum, below}
 use Rattle.basis.specs.Buffers.{laid}
 use Rattle.basis.proofs.Lists.{mapped-in-place}
@@ -19,43 +18,30 @@ use Rattle.basis.proofs.Members.{sum-each-same, sum-mapped}
 use Rattle.basis.proofs.Runs.{within-or-past, in-below, sum-ends, taken-by-number}
 use Rattle.register.specs.File.{rowsIn}
 use Rattle.query.specs.declared.Test.{Test}
-use Rattle.query.specs.Tests.{mostTests, emptySlot, testAt}
+use Rattle.query.specs.Tests.{mostTests, emptySlot, testAt, slotsOf}
+use Rattle.query.proofs.Slots.{length-filled, filled-at, filled-after}
 use Rattle.schedule.specs.Segments.{segments}
 use Rattle.schedule.specs.Schedule.{count, total, matches}
 use Rattle.schedule.specs.Comparisons.{ColumnTest, comparing}
 use Rattle.scan.specs.declared.Scanned.{Scanned}
 use Rattle.scan.specs.Scanning.{widened, testsIn, bytesIn, segmentsIn}
 use Rattle.scan.specs.Bits.{bitsOf}
-use Rattle.scan.specs.Answers.{slotsOf, accepted, foundBits}
+use Rattle.scan.specs.Answers.{accepted, foundBits}
 use Rattle.scan.specs.Steps.{asked}
 use Rattle.scan.proofs.Sizes.{Eighths}
 use Rattle.scan.proofs.SegmentSums.{foundIn, counted-in-all}
 use Rattle.scan.proofs.RowsSoFar.{SoFar}
-use Rattle.scan.proofs.Accepting.{slot}
-
-length-slots : (numbers : List ℕ) → length (slotsOf numbers) ≡ 16
-length-slots numbers =
-    rw (length-take mostTests (numbers ++ replicate mostTests 0), length-append numbers (replicate mostTests 0)) (omega arith)
-
--- after the last number, the slots hold 0
-slot-after : (numbers : List ℕ) (t : ℕ) → length numbers ≤ t → t < 16 → getD (slotsOf numbers) t 0 ≡ 0
-slot-after numbers t past h =
-    let more = le-dest past in
-    getD-take mostTests (numbers ++ replicate mostTests 0) t 0 h
-    ∙ ap (λ (place : ℕ). getD (numbers ++ replicate mostTests 0) place 0) (sym (more .1))
-    ∙ getD-append-add numbers (replicate mostTests 0) (more .0) 0
-    ∙ getD-replicate mostTests (more .0) 0 0 (omega (arith, more .1))
 
 pub slots-are : (counts numbers : List ℕ) → length counts ≡ 16 → length numbers ≤ 16 →
     ((t : ℕ) → t < length numbers → getD counts t 0 ≡ getD numbers t 0) →
-    ((t : ℕ) → length numbers ≤ t → getD counts t 0 ≡ 0) → counts ≡ slotsOf numbers
+    ((t : ℕ) → length numbers ≤ t → getD counts t 0 ≡ 0) → counts ≡ slotsOf 0 numbers
 slots-are counts numbers sixteen few each rest =
-    ext-getD 0 counts (slotsOf numbers) (sixteen ∙ sym (length-slots numbers))
+    ext-getD 0 counts (slotsOf 0 numbers) (sixteen ∙ sym (length-filled 0 mostTests numbers))
     (λ t h. go t (omega arith) (within-or-past t (length numbers)))
   where
-    go : (t : ℕ) → t < 16 → (t < length numbers) ⊎ (length numbers ≤ t) → getD counts t 0 ≡ getD (slotsOf numbers) t 0
-    go t h (inl inside) = each t inside ∙ sym (slot numbers t inside few)
-    go t h (inr past) = rest t past ∙ sym (slot-after numbers t past h)
+    go : (t : ℕ) → t < 16 → (t < length numbers) ⊎ (length numbers ≤ t) → getD counts t 0 ≡ getD (slotsOf 0 numbers) t 0
+    go t h (inl inside) = each t inside ∙ sym (filled-at 0 mostTests numbers t inside few)
+    go t h (inr past) = rest t past ∙ sym (filled-after 0 mostTests numbers t past h)
 
 sum-of-slots : (f : Test → ℕ) (tests : List Test) (many : ℕ) (counts : List ℕ) → many ≤ length tests → many ≤ 16 →
     ((t : ℕ) → t < many → getD counts t 0 ≡ f (testAt tests t)) → ((t : ℕ) → many ≤ t → getD counts t 0 ≡ 0) →
@@ -105,7 +91,7 @@ module _ (file : List ℕ) (tests : List Test) (many size rows : ℕ) (same-rows
       let long : length numbers ≡ many = length-map (testsIn file (asked tests many)) countOf ∙ length-tests in
       let same-matches : matched ≡ matches comparing (bytesIn file) (testsIn file (asked tests many)) (rowsIn file) =
       far .matched ∙ ap (λ (n : ℕ). sum (λ row. cond (foundIn file tests many row) 1 0) (below n)) at-the-end in
-      let same-counts : counts ≡ slotsOf numbers =
+      let same-counts : counts ≡ slotsOf 0 numbers =
       slots-are counts numbers (far .sixteen) (omega (arith, long))
       (λ t h. each-count t (rw long at h) ∙ sym (numbers-in-place t (rw long at h)))
       (λ t h. far .after t (rw long at h)) in

@@ -1,14 +1,14 @@
 -- The reply to a scan, and what it leaves in the result. Assumes nothing.
 use Prim.Native.Nat.{ℕ}
-use mathlib.Core.List.{List, [], _++_, map}
-use lib.ListN.{length, take, replicate}
+use mathlib.Core.List.{List, [], map}
+use lib.ListN.{length}
 use Rattle.basis.specs.Refusals.{firstLine, answerBy}
 use Rattle.basis.specs.Buffers.{laid}
 use Rattle.register.specs.declared.Refusal.{Refusal}
 use Rattle.register.specs.File.{rowsIn}
 use Rattle.register.specs.Answers.{refusal}
 use Rattle.query.specs.declared.Query.{Query}
-use Rattle.query.specs.Tests.{mostTests}
+use Rattle.query.specs.Tests.{slotsOf}
 use Rattle.schedule.specs.Schedule.{count, total, found, matches}
 use Rattle.schedule.specs.Comparisons.{comparing}
 use Rattle.scan.specs.declared.Scanned.{Scanned}
@@ -16,13 +16,9 @@ use Rattle.scan.specs.Scanning.{testsIn, bytesIn, segmentsIn}
 use Rattle.scan.specs.Bits.{bitsOf}
 use Rattle.scan.specs.Refusals.{scanLines}
 
--- a number for each test, and 0 in the slots after the last
-abbrev pub slotsOf : List ℕ → List ℕ
-slotsOf numbers = take mostTests (numbers ++ replicate mostTests 0)
-
 -- a refused scan answers 0 in every field
 abbrev pub refused : Refusal → Scanned
-refused refusal = record { refusal = refusal; matches = 0; counts = slotsOf []; total = 0 }
+refused refusal = record { refusal = refusal; matches = 0; counts = slotsOf 0 []; total = 0 }
 
 -- an accepted scan answers the schedule's numbers
 unfoldable pub accepted : List ℕ → ℕ → Query → Scanned
@@ -31,7 +27,7 @@ accepted file size query =
       refusal = record { number = 0; place = 0; need = 0 };
       matches = matches comparing (bytesIn file) (testsIn file query) (rowsIn file);
       counts =
-          slotsOf
+          slotsOf 0
           (map (λ t. count comparing (bytesIn file) (testsIn file query) t (segmentsIn file size)) (testsIn file query));
       total = total comparing (bytesIn file) (testsIn file query) (segmentsIn file size);
     }

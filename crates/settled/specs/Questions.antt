@@ -8,7 +8,7 @@ use Rattle.register.specs.Opening as opens
 use Rattle.writer.specs.Writing as writes
 use Rattle.query.specs.declared.Query.{Query}
 use Rattle.query.specs.declared.Test.{Test}
-use Rattle.query.specs.Tests.{slotsOf}
+use Rattle.query.specs.Tests.{emptySlot, slotsOf}
 use Rattle.scan.specs.Answers as scans
 use Rattle.rows.specs.RowList as lists
 use Rattle.exports.specs.Replies.{scanReply}
@@ -23,7 +23,7 @@ pub data Question : Type 0 where
 
 -- a query of these tests
 abbrev asking : List Test → Query
-asking tests = record { count = length tests; tests = slotsOf tests }
+asking tests = record { count = length tests; tests = slotsOf emptySlot tests }
 
 -- what the definitions of the promises answer
 abbrev pub answer : Question → List ℕ

@@ -5,7 +5,6 @@ pub mod Lines
 pub mod Places
 pub mod Numbers
 pub mod Signs
-pub mod Slots
 pub mod Formed
 pub mod ReadLines
 pub mod ReadTexts

@@ -8,7 +8,7 @@ use Rattle.query.specs.Tests.{mostTests, emptySlot, testsOf}
 use Rattle.text.specs.declared.Asked.{Asked}
 use Rattle.text.specs.Lines.{textOf}
 use Rattle.text.specs.Reading.{Reads}
-use Rattle.text.proofs.Slots.{filled-front}
+use Rattle.query.proofs.Slots.{filled-front}
 
 pub read-is-printed : {text : List ℕ} {reply : Asked} → Reads text reply → reply .refusal .number ≡ 0 →
     text ≡ textOf (reply .size) (testsOf (reply .query))

@@ -21,18 +21,18 @@ use Rattle.text.specs.Reading.{refusedWith, Formed, Reads}
 use Rattle.text.specs.Steps.{SegmentAt, LineAt}
 use Rattle.text.proofs.Lines.{text-one-more}
 use Rattle.text.proofs.Formed.{no-tests, test-behind}
-use Rattle.text.proofs.Slots.{filled-one-more, filled-past-last}
+use Rattle.query.proofs.Slots.{filled-one-more, filled-past-last}
 
 pub record ReadUpTo (text : List ℕ) (size at count : ℕ) (slots : List Test) : Type 0 where
   pub tests : List Test
   pub formed : Formed size tests
   pub many : length tests ≡ count
   pub spelt : text ≡ textOf size tests ++ drop at text
-  pub held : slots ≡ slotsOf tests
+  pub held : slots ≡ slotsOf emptySlot tests
   pub few : count ≤ at
   pub within : at ≤ length text
 
-pub first-line : (text : List ℕ) (size : ℕ) {at : ℕ} {slots : List Test} → SegmentAt text (Value size at) → slots ≡ slotsOf [] →
+pub first-line : (text : List ℕ) (size : ℕ) {at : ℕ} {slots : List Test} → SegmentAt text (Value size at) → slots ≡ slotsOf emptySlot [] →
     ReadUpTo text size at 0 slots
 unfolding textOf flatten
 first-line text size line empty = record {
@@ -55,7 +55,7 @@ with-query size count slots = record {
 
 module _ {text : List ℕ} {size at count : ℕ} {slots : List Test} (so-far : ReadUpTo text size at count slots) where
   one-line-more : (test : Test) {next : ℕ} {now : List Test} → LineAt text at (Asks test next) →
-      now ≡ slotsOf (so-far .tests ++ (test ∷ [])) → ReadUpTo text size next (count + 1) now
+      now ≡ slotsOf emptySlot (so-far .tests ++ (test ∷ [])) → ReadUpTo text size next (count + 1) now
   one-line-more test {next} line slots-now = record {
     tests = so-far .tests ++ (test ∷ []);
     formed = test-behind (so-far .tests) test (line .0) (so-far .formed);

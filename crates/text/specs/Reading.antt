@@ -4,7 +4,7 @@ use mathlib.Core.Path.{_≡_}
 use mathlib.Core.List.{List, [], _++_, List·Memᴰ}
 use lib.ListN.{length}
 use Rattle.query.specs.declared.Test.{Test}
-use Rattle.query.specs.Tests.{mostTests, slotsOf}
+use Rattle.query.specs.Tests.{mostTests, emptySlot, slotsOf}
 use Rattle.text.specs.declared.Asked.{Asked}
 use Rattle.text.specs.Decimals.{decimalLimit}
 use Rattle.text.specs.Lines.{segmentLine, testLine, textOf, SmallTest}
@@ -14,7 +14,7 @@ abbrev pub accepted : ℕ → List Test → Asked
 accepted size tests = record {
   refusal = record { number = 0; place = 0; need = 0 };
   size = size;
-  query = record { count = length tests; tests = slotsOf tests };
+  query = record { count = length tests; tests = slotsOf emptySlot tests };
 }
 
 -- a refused reply: size 0, count 0 and only such slots
@@ -22,7 +22,7 @@ abbrev pub refusedWith : ℕ → ℕ → Asked
 refusedWith number place = record {
   refusal = record { number = number; place = place; need = 0 };
   size = 0;
-  query = record { count = 0; tests = slotsOf [] };
+  query = record { count = 0; tests = slotsOf emptySlot [] };
 }
 
 -- a text begins with a well formed line 0, or with a well formed line of a test

@@ -3,13 +3,17 @@
 --   filled-one-more   an element more goes into the slot behind the others
 --   filled-past-last  where every slot is taken, an element more changes none
 --   filled-front      where the list is no longer than the slots, it is what stands in the first of them
+--   length-filled     they are so many
+--   filled-at         an element of the list stands in its slot
+--   filled-after      behind the list the slots are empty
 use Prim.Native.Nat.{ℕ, zero, suc, _<_, _≤_}
 use native.Mathlib.Omega.{arith}
+use native.Mathlib.Nat.{le-dest}
 use native.Mathlib.Numerals.{add-one}
 use mathlib.Core.Path.{_≡_, sym, ap, _∙_}
 use mathlib.Core.List.{List, [], _∷_, _++_, append-assoc}
-use lib.ListN.{length, take, set, replicate, length-append, length-replicate, replicate-append-replicate}
-use lib.Seq.{take-append-le, take-append-seam, take-take, take-set-lt, set-append-seam}
+use lib.ListN.{length, getD, take, set, replicate, length-append, length-take, length-replicate, getD-replicate, List·getD-append, replicate-append-replicate}
+use lib.Seq.{getD-take, getD-append-add, take-append-le, take-append-seam, take-take, take-set-lt, set-append-seam}
 
 abbrev pub filled : {A : Type 0} → A → ℕ → List A → List A
 filled empty many list = take many (list ++ replicate many empty)
@@ -40,3 +44,19 @@ module _ {A : Type 0} (empty : A) where
   pub filled-front : (many : ℕ) (list : List A) → length list ≤ many → take (length list) (filled empty many list) ≡ list
   filled-front many list fits =
       take-take (length list) many (list ++ replicate many empty) fits ∙ take-append-seam list (replicate many empty)
+
+  pub length-filled : (many : ℕ) (list : List A) → length (filled empty many list) ≡ many
+  length-filled many list = rw (length-take, length-append, length-replicate) (omega arith)
+
+  pub filled-at : (many : ℕ) (list : List A) (k : ℕ) → k < length list → length list ≤ many →
+      getD (filled empty many list) k empty ≡ getD list k empty
+  filled-at many list k h few =
+      getD-take many (list ++ replicate many empty) k empty (omega arith) ∙ List·getD-append list (replicate many empty) empty k h
+
+  pub filled-after : (many : ℕ) (list : List A) (k : ℕ) → length list ≤ k → k < many → getD (filled empty many list) k empty ≡ empty
+  filled-after many list k past h =
+      let more = le-dest past in
+      getD-take many (list ++ replicate many empty) k empty h
+      ∙ ap (λ (place : ℕ). getD (list ++ replicate many empty) place empty) (sym (more .1))
+      ∙ getD-append-add list (replicate many empty) (more .0) empty
+      ∙ getD-replicate many (more .0) empty empty (omega (arith, more .1))
