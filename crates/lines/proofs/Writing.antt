@@ -1,5 +1,6 @@
 -- Writing words one behind the other. Assumes nothing.
---   put-within, put-outside    one byte, where the piece reaches it and where it does not
+--   put-within                 one byte, where the piece reaches it
+--   put-before, put-behind     and where it does not
 --   length-put, length-write   the buffer keeps its length
 --   same-room                  so it does after a step
 --   wrote-nothing, wrote-byte  no byte, and one

@@ -11,7 +11,7 @@ use Rattle.register.specs.Limits.{mostRows}
 use Rattle.register.specs.File.{rowsIn, widthIn}
 use Rattle.query.specs.declared.Query.{Query}
 use Rattle.query.specs.declared.Test.{Test}
-use Rattle.query.specs.Tests.{emptySlot}
+use Rattle.query.specs.Tests.{testAt}
 use Rattle.text.specs.declared.Asked.{Asked}
 use Rattle.text.specs.Reading.{Reads}
 use Rattle.schedule.specs.Schedule.{found}
@@ -29,7 +29,7 @@ scanFor file asked = scannedOf file (asked .size) (asked .query) (bytesFor mostR
 
 -- the line of test t: its count of so many counts, and the rows times the slices of its column
 abbrev pub testLineAt : List ℕ → List Test → List ℕ → ℕ → List ℕ
-testLineAt file tests counts t = testLine t (getD counts t 0) (rowsIn file * slicesOf (widthIn file (getD tests t emptySlot .column)))
+testLineAt file tests counts t = testLine t (getD counts t 0) (rowsIn file * slicesOf (widthIn file (testAt tests t .column)))
 
 -- a line for each of the first so many tests
 unfoldable pub testLines : List ℕ → List Test → List ℕ → ℕ → List ℕ
