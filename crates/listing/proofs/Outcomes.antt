@@ -19,7 +19,7 @@ use Rattle.register.specs.Opening.{openedOf}
 use Rattle.register.proofs.PassedOn.{refusal-passed-on}
 use Rattle.text.specs.declared.Asked.{Asked}
 use Rattle.scan.specs.declared.Scanned.{Scanned}
-use Rattle.scan.specs.Bits.{bytesFor}
+use Rattle.packing.specs.Bits.{bytesFor}
 use Rattle.scan.specs.Refusals.{ownLines}
 use Rattle.scan.specs.Answers.{leftIn}
 use Rattle.scan.proofs.Accepting.{Accepted}

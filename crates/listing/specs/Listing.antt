@@ -17,8 +17,8 @@ use Rattle.text.specs.Reading.{Reads}
 use Rattle.schedule.specs.Schedule.{found}
 use Rattle.schedule.specs.Comparisons.{comparing}
 use Rattle.scan.specs.declared.Scanned.{Scanned}
-use Rattle.scan.specs.Scanning.{testsIn, bytesIn}
-use Rattle.scan.specs.Bits.{bytesFor}
+use Rattle.segment.specs.Scanning.{testsIn, bytesIn}
+use Rattle.packing.specs.Bits.{bytesFor}
 use Rattle.scan.specs.Answers.{scannedOf}
 use Rattle.lines.specs.Pieces.{PieceWritten}
 use Rattle.lines.specs.Lines.{headLine, testLine, rowLine, refusedLine}

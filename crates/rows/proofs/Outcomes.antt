@@ -17,7 +17,7 @@ use Rattle.basis.specs.Buffers.{laid}
 use Rattle.basis.proofs.Truth.{neither}
 use Rattle.register.specs.Limits.{mostRows}
 use Rattle.register.specs.Answers.{refusal}
-use Rattle.scan.specs.Bits.{bytesFor}
+use Rattle.packing.specs.Bits.{bytesFor}
 use Rattle.rows.specs.declared.Listed.{Listed}
 use Rattle.rows.specs.declared.Listed.the-variants.{Rows, Refused}
 use Rattle.rows.specs.Answers.{refusedWith, shownOf}

@@ -9,7 +9,7 @@ use Rattle.basis.specs.Refusals.{Line, refuse, refuseFor, firstLine, answerBy, 
 use Rattle.basis.specs.Buffers.{laid}
 use Rattle.register.specs.Limits.{mostRows}
 use Rattle.register.specs.Answers.{refusal}
-use Rattle.scan.specs.Bits.{bytesFor, bitIn}
+use Rattle.packing.specs.Bits.{bytesFor, bitIn}
 use Rattle.rows.specs.declared.Listed.{Listed}
 use Rattle.rows.specs.declared.Listed.the-variants.{Rows, Refused}
 

@@ -10,7 +10,7 @@ ghost use lib.ListN.{length, getD};
 ghost use mathlib.Core.List.{map};
 ghost use Rattle.basis.specs.Buffers.{laid};
 ghost use Rattle.register.specs.Limits.{mostRows};
-ghost use Rattle.scan.specs.Bits.{bytesFor};
+ghost use Rattle.packing.specs.Bits.{bytesFor};
 ghost use Rattle.basis.specs.Lists.{below};
 ghost use Rattle.rows.specs.Places.{placesIn, placesOf, HoldsPlaces};
 ghost use Rattle.rows.specs.Steps.{rowAt, BytePut, WordRead, WordPut};

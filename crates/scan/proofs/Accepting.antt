@@ -30,11 +30,11 @@ use Rattle.query.proofs.Slots.{filled-at}
 use Rattle.schedule.specs.Schedule.{count}
 use Rattle.schedule.specs.Comparisons.{ColumnTest, comparing}
 use Rattle.scan.specs.declared.Scanned.{Scanned}
-use Rattle.scan.specs.Scanning.{widened, testsIn, bytesIn, segmentsIn}
+use Rattle.segment.specs.Scanning.{widened, testsIn, bytesIn, segmentsIn}
 use Rattle.scan.specs.Refusals.{unfitSize, testLines, ownLines, scanLines}
 use Rattle.scan.specs.Answers.{accepted, scannedOf}
 use Rattle.scan.proofs.Judging.{FitTest, each-test-fits}
-use Rattle.scan.proofs.Planning.{narrow}
+use Rattle.segment.proofs.Planning.{narrow}
 
 -- no line of the table answers
 abbrev pub Accepted : List ℕ → ℕ → Query → ℕ → Type 0

@@ -24,10 +24,10 @@ use Rattle.schedule.specs.Segments.{segments}
 use Rattle.schedule.specs.Schedule.{count, total, matches}
 use Rattle.schedule.specs.Comparisons.{ColumnTest, comparing}
 use Rattle.scan.specs.declared.Scanned.{Scanned}
-use Rattle.scan.specs.Scanning.{widened, testsIn, bytesIn, segmentsIn}
-use Rattle.scan.specs.Bits.{bitsOf}
+use Rattle.segment.specs.Scanning.{widened, testsIn, bytesIn, segmentsIn}
+use Rattle.packing.specs.Bits.{bitsOf}
 use Rattle.scan.specs.Answers.{accepted, foundBits}
-use Rattle.scan.specs.Steps.{asked}
+use Rattle.segment.specs.Steps.{asked}
 use Rattle.scan.proofs.Sizes.{Eighths}
 use Rattle.scan.proofs.SegmentSums.{foundIn, counted-in-all}
 use Rattle.scan.proofs.RowsSoFar.{SoFar}

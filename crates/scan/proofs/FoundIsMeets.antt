@@ -21,11 +21,11 @@ use Rattle.query.specs.Tests.{meets, testsOf}
 use Rattle.schedule.specs.Schedule.{found}
 use Rattle.schedule.specs.Comparisons.{ColumnTest, comparing}
 use Rattle.schedule.proofs.Meets as schedule
-use Rattle.scan.specs.Scanning.{widened, testsIn, bytesIn}
-use Rattle.scan.specs.Bits.{bitIn}
+use Rattle.segment.specs.Scanning.{widened, testsIn, bytesIn}
+use Rattle.packing.specs.Bits.{bitIn}
 use Rattle.scan.specs.Answers.{leftIn}
 use Rattle.scan.proofs.LeftBits.{bit-left}
-use Rattle.scan.proofs.Planning.{below-the-limit}
+use Rattle.segment.proofs.Planning.{below-the-limit}
 use Rattle.scan.proofs.Accepting.{Accepted, fits}
 
 -- what stands anywhere in a list of bytes, and 0 past its end, is a byte

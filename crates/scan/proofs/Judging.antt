@@ -32,7 +32,7 @@ use Rattle.query.specs.declared.Test.{Test}
 use Rattle.query.specs.Tests.{mostTests, literalOf, emptySlot, testAt}
 use Rattle.scan.specs.declared.Verdict.the-variants.{Fit, Unfit}
 use Rattle.scan.specs.Refusals.{testLines}
-use Rattle.scan.specs.Steps.{Judged}
+use Rattle.segment.specs.Steps.{Judged}
 
 test-lines-joined : (file : List ℕ) (place : ℕ) (xs ys : List Test) →
     testLines file place (xs ++ ys) ≡ testLines file place xs ++ testLines file (place + length xs) ys

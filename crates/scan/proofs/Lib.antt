@@ -1,15 +1,5 @@
 -- The laws of the scan.
-pub mod Kept
-pub mod ByNumber
-pub mod Work
-pub mod Progress
-pub mod OpenRows
-pub mod Ending
-pub mod Parts
-pub mod Stepping
 pub mod Judging
-pub mod Planning
-pub mod Packed
 pub mod Sizes
 pub mod SegmentSums
 pub mod RowsSoFar
@@ -17,7 +7,6 @@ pub mod WithinBounds
 pub mod AllRows
 pub mod Outcomes
 pub mod Accepting
-pub mod EachBit
 pub mod LeftBits
 pub mod ReorderedQuery
 pub mod OneMoreTest

@@ -35,7 +35,7 @@ use Rattle.query.specs.declared.Query.{Query}
 use Rattle.query.specs.Tests.{mostTests, literalOf, testsOf}
 use Rattle.scan.specs.declared.Scanned.{Scanned}
 use Rattle.scan.specs.declared.Verdict.the-variants.{Fit, Unfit}
-use Rattle.scan.specs.Bits.{bytesFor}
+use Rattle.packing.specs.Bits.{bytesFor}
 use Rattle.scan.specs.Refusals.{unfitSize, testLines, ownLines, scanLines}
 use Rattle.scan.specs.Answers.{refused, accepted, foundBits, scannedOf, leftIn}
 use Rattle.scan.specs.Steps.{verdictOf}

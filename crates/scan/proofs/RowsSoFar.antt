@@ -22,13 +22,13 @@ use Rattle.query.specs.Tests.{mostTests, testAt}
 use Rattle.schedule.specs.Schedule.{countIn}
 use Rattle.schedule.specs.Comparisons.{comparing}
 use Rattle.schedule.proofs.Numbered.{segment-is-run}
-use Rattle.scan.specs.declared.Segment.{Segment}
-use Rattle.scan.specs.Scanning.{widened, testsIn, bytesIn}
-use Rattle.scan.specs.Bits.{bytesFor, bitsOf}
+use Rattle.segment.specs.declared.Segment.{Segment}
+use Rattle.segment.specs.Scanning.{widened, testsIn, bytesIn}
+use Rattle.packing.specs.Bits.{bytesFor, bitsOf}
 use Rattle.standings.specs.Sweeps.{Swept}
-use Rattle.scan.specs.Steps.{SegmentScanned, asked}
+use Rattle.segment.specs.Steps.{SegmentScanned, asked}
 use Rattle.standings.proofs.FrontSweeps.{all-zero}
-use Rattle.scan.proofs.Packed.{bits-same, bits-joined, length-bits}
+use Rattle.packing.proofs.Packed.{bits-same, bits-joined, length-bits}
 use Rattle.scan.proofs.Sizes.{Eighths, starts-on-a-byte}
 use Rattle.scan.proofs.SegmentSums.{foundIn, countedIn}
 

@@ -20,9 +20,9 @@ use Rattle.register.specs.File.{widthIn}
 use Rattle.register.specs.Limits.{mostRows}
 use Rattle.query.specs.declared.Test.{Test}
 use Rattle.query.specs.Tests.{mostTests, testAt}
-use Rattle.scan.specs.declared.Segment.{Segment}
-use Rattle.scan.specs.Bits.{bytesFor}
-use Rattle.scan.specs.Steps.{SegmentScanned, FoundRows}
+use Rattle.segment.specs.declared.Segment.{Segment}
+use Rattle.packing.specs.Bits.{bytesFor, FoundRows}
+use Rattle.segment.specs.Steps.{SegmentScanned}
 use Rattle.scan.proofs.Sizes.{Eighths}
 use Rattle.scan.proofs.SegmentSums.{foundIn, countedIn, few-counted}
 use Rattle.scan.proofs.RowsSoFar.{SoFar, on-a-byte, next-counted}

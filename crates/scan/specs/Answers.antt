@@ -12,8 +12,8 @@ use Rattle.query.specs.Tests.{slotsOf}
 use Rattle.schedule.specs.Schedule.{count, total, found, matches}
 use Rattle.schedule.specs.Comparisons.{comparing}
 use Rattle.scan.specs.declared.Scanned.{Scanned}
-use Rattle.scan.specs.Scanning.{testsIn, bytesIn, segmentsIn}
-use Rattle.scan.specs.Bits.{bitsOf}
+use Rattle.segment.specs.Scanning.{testsIn, bytesIn, segmentsIn}
+use Rattle.packing.specs.Bits.{bitsOf}
 use Rattle.scan.specs.Refusals.{scanLines}
 
 -- a refused scan answers 0 in every field

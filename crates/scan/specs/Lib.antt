@@ -1,6 +1,4 @@
 -- What a scan answers, by the schedule at a file and a query.
-pub mod Scanning
-pub mod Bits
 pub mod Refusals
 pub mod Answers
 pub mod Steps

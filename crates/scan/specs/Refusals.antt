@@ -10,7 +10,7 @@ use Rattle.register.specs.Opening.{openLines}
 use Rattle.query.specs.declared.Test.{Test}
 use Rattle.query.specs.declared.Query.{Query}
 use Rattle.query.specs.Tests.{mostTests, literalOf, testsOf}
-use Rattle.scan.specs.Bits.{bytesFor}
+use Rattle.packing.specs.Bits.{bytesFor}
 
 -- a segment has 8, 16, 32 or 64 rows
 unfoldable pub unfitSize : ℕ → Bool

@@ -1,6 +1,6 @@
 -- A row's standing to a test, kept as a byte: 0 equal so far, 1 less, 2 greater. Assumes nothing.
 use Prim.Native.Nat.{ℕ, Ordering, Ordering·lt, Ordering·eq, Ordering·gt}
-use mathlib.Core.Bool.{Bool, true, false, _||_, cond}
+use mathlib.Core.Bool.{Bool, false, _||_, cond}
 use lib.Dec.{eqb}
 use Rattle.codes.specs.Order.{against}
 use Rattle.query.specs.declared.Comparison.{Comparison}
@@ -41,8 +41,3 @@ failsKept (More _) s = eqb s 0
 failsKept (AtLeast _) s = false
 failsKept (Equal _) s = false
 failsKept (Differs _) s = eqb s 0
-
--- what takes a row out: at the end what is no match, before it what rules a row out
-abbrev pub takesOut : Bool → Comparison → ℕ → Bool
-takesOut true = failsKept
-takesOut false = rulesOutKept

@@ -8,7 +8,7 @@ ghost use Prim.Native.Nat.{ℕ, _+_, _*_, _≤_, _<_};
 ghost use mathlib.Core.Bool.{cond};
 ghost use lib.Dec.{ltb};
 ghost use lib.ListN.{length, getD};
-ghost use Rattle.standings.specs.Standings.{steppedRow, openRow, rulesOutKept, failsKept, takesOut};
+ghost use Rattle.standings.specs.Standings.{steppedRow, openRow, rulesOutKept, failsKept};
 ghost use Rattle.standings.specs.Sweeps.{Swept};
 ghost use Rattle.standings.specs.TakenOut.{takenOutBy, takenOut, takenOutByAll};
 
@@ -109,6 +109,27 @@ fn rule(
     }
 }
 
+// Takes out the rows that some test rules out.
+pub fn rule_all(
+    tests: [Test; 16],
+    count: usize,
+    standings: &[u8; 1024],
+    inside: &mut [u8; 64],
+    n: usize,
+)
+    requires { ⌜ (count ≤ 16) × (n ≤ 64) × (length (now inside) ≡ 64) ⌝ }
+    ensures { λ _. ⌜ Swept (now (inside .entry)) (now (inside .exit)) 0 n
+        (takenOutByAll rulesOutKept tests count (now (standings .entry)) (now (inside .entry))) ⌝ }
+{
+    let mut t = 0;
+    while t < count {
+        let test = tests[t];
+        let comparison = test.comparison;
+        rule(comparison, standings, t * 64, inside, n);
+        t = t + 1;
+    }
+}
+
 // Takes out the rows that are equal to the end, where that is no match.
 fn last(
     comparison: Comparison,
@@ -131,29 +152,9 @@ fn last(
     }
 }
 
-// Takes out the rows that a test rules out, or at the end those that are no match.
-fn take_out_by(
-    ended: bool,
-    comparison: Comparison,
-    standings: &[u8; 1024],
-    base: usize,
-    inside: &mut [u8; 64],
-    n: usize,
-)
-    requires { ⌜ (base + n ≤ 1024) × (n ≤ 64) × (length (now inside) ≡ 64) ⌝ }
-    ensures { λ _. ⌜ Swept (now (inside .entry)) (now (inside .exit)) 0 n
-        (takenOut (takesOut ended) comparison (now (standings .entry)) base (now (inside .entry))) ⌝ }
-{
-    if ended {
-        last(comparison, standings, base, inside, n);
-        return;
-    }
-    rule(comparison, standings, base, inside, n);
-}
-
-// Takes out the rows that some test takes out.
-pub fn take_out_all(
-    ended: bool,
+// The same for all tests. This and `rule_all` are two loops, each with one caller, so that both become
+// part of it; one loop for both made short segments slower by a tenth.
+pub fn last_all(
     tests: [Test; 16],
     count: usize,
     standings: &[u8; 1024],
@@ -162,13 +163,13 @@ pub fn take_out_all(
 )
     requires { ⌜ (count ≤ 16) × (n ≤ 64) × (length (now inside) ≡ 64) ⌝ }
     ensures { λ _. ⌜ Swept (now (inside .entry)) (now (inside .exit)) 0 n
-        (takenOutByAll (takesOut ended) tests count (now (standings .entry)) (now (inside .entry))) ⌝ }
+        (takenOutByAll failsKept tests count (now (standings .entry)) (now (inside .entry))) ⌝ }
 {
     let mut t = 0;
     while t < count {
         let test = tests[t];
         let comparison = test.comparison;
-        take_out_by(ended, comparison, standings, t * 64, inside, n);
+        last(comparison, standings, t * 64, inside, n);
         t = t + 1;
     }
 }

@@ -8,7 +8,7 @@ use Rattle.register.specs.Limits.{mostRows}
 use Rattle.register.specs.Answers.{refusalOf}
 use Rattle.register.specs.Opening.{openedOf}
 use Rattle.scan.specs.declared.Scanned.{Scanned}
-use Rattle.scan.specs.Bits.{bytesFor}
+use Rattle.packing.specs.Bits.{bytesFor}
 use Rattle.scan.specs.Answers.{scannedOf}
 use Rattle.listing.specs.Listing.{scanFor}
 use Rattle.lines.proofs.Writing.{written-then}

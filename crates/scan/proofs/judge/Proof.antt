@@ -12,7 +12,7 @@ use Rattle.register.proofs.Fit.{opened-is-fit}
 use Rattle.query.specs.Tests.{literalOf, testAt}
 use Rattle.scan.specs.Steps.{verdictOf}
 use Rattle.scan.specs.Refusals.{testLines}
-use Rattle.scan.proofs.Planning.{narrow}
+use Rattle.segment.proofs.Planning.{narrow}
 use Rattle.scan.proofs.Judging as judging
 use Rattle.scan.proofs.judge.Statement.{statement}
 use Rattle.scan.proofs.judge.Tie as tie

@@ -12,7 +12,7 @@ use Rattle.register.specs.File.{rowsIn, widthIn}
 use Rattle.register.proofs.Fit.{opened-is-fit}
 use Rattle.query.specs.Tests.{testAt}
 use Rattle.scan.proofs.WithinBounds.{found-rows, ones-at-most, counts-small, sums-small, matches-at-most, room-for-segment}
-use Rattle.scan.proofs.Planning.{narrow}
+use Rattle.segment.proofs.Planning.{narrow}
 use Rattle.scan.proofs.Sizes.{Eighths, in-eighths}
 use Rattle.scan.proofs.AllRows.{all-scanned, all-put}
 use Rattle.scan.proofs.RowsSoFar.{SoFar, nothing-yet, one-more-segment}

@@ -1,0 +1,3 @@
+-- The laws of bits packed into bytes.
+pub mod Packed
+pub mod EachBit

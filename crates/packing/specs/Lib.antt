@@ -1,0 +1,2 @@
+-- The bits of a result.
+pub mod Bits

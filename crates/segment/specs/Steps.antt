@@ -1,0 +1,66 @@
+-- What scanning a segment may rely on, and what it answers. Assumes nothing.
+use Prim.Native.Nat.{ℕ, _+_, _*_, _^_, _≤_, _<_}
+use mathlib.Core.Path.{_≡_}
+use mathlib.Core.List.{List}
+use mathlib.Core.Bool.{false, cond}
+use lib.ListN.{length, getD}
+use Rattle.basis.specs.Lists.{run}
+use Rattle.codes.specs.Width.{widest, slicesOf, tooLarge}
+use Rattle.codes.specs.Bytes.{byteOf}
+use Rattle.codes.specs.Pad.{highOf}
+use Rattle.register.specs.declared.Shape.{Shape}
+use Rattle.register.specs.declared.Opened.the-variants.{Register}
+use Rattle.register.specs.File.{widthIn, offsetIn}
+use Rattle.register.specs.Opening.{openedOf}
+use Rattle.query.specs.declared.Test.{Test}
+use Rattle.query.specs.declared.Query.{Query}
+use Rattle.query.specs.Tests.{mostTests, literalOf, testAt}
+use Rattle.schedule.specs.Schedule.{countIn, found}
+use Rattle.schedule.specs.Comparisons.{comparing}
+use Rattle.segment.specs.declared.Segment.{Segment}
+use Rattle.segment.specs.Scanning.{widened, testsIn, bytesIn}
+
+-- a query as it has been judged: the file opened, and every test fits it
+pub record Judged (file : List ℕ) (shape : Shape) (tests : List Test) (count : ℕ) : Type 0 where
+  pub opened : openedOf file ≡ Register shape
+  pub few : count ≤ mostTests
+  pub columns : (t : ℕ) → t < count → testAt tests t .column < shape .columns
+  pub literals : (t : ℕ) → t < count →
+      tooLarge (widthIn file (testAt tests t .column)) (literalOf (testAt tests t .comparison)) ≡ false
+
+-- a literal that fits its column
+abbrev pub FitLiteral : ℕ → ℕ → Type 0
+FitLiteral width literal = (width ≤ widest) × (literal < 2 ^ width)
+
+-- the plan of a query: where each test's column starts, its slices, and the literal's low and high bytes, four to a test
+pub record Planned (file : List ℕ) (tests : List Test) (count : ℕ) (offsets slices lows highs : List ℕ) : Type 0 where
+  pub at-offset : (t : ℕ) → t < count → getD offsets t 0 ≡ offsetIn file (testAt tests t .column)
+  pub so-many : (t : ℕ) → t < count → getD slices t 0 ≡ slicesOf (widthIn file (testAt tests t .column))
+  pub from-low : (t j : ℕ) → t < count → j < slicesOf (widthIn file (testAt tests t .column)) →
+      getD lows (t * 4 + j) 0 ≡ byteOf (widthIn file (testAt tests t .column)) (literalOf (testAt tests t .comparison)) j
+  pub to-high : (t j : ℕ) → t < count → j < slicesOf (widthIn file (testAt tests t .column)) →
+      getD highs (t * 4 + j) 0 ≡
+      highOf (widthIn file (testAt tests t .column)) j
+      (byteOf (widthIn file (testAt tests t .column)) (literalOf (testAt tests t .comparison)) j)
+
+-- a segment of a judged file: n rows from the first on, at most 64
+pub record SegmentFit (file : List ℕ) (rows first n : ℕ) (tests : List Test) (count : ℕ) : Type 0 where
+  pub columns : ℕ
+  pub judged : Judged file (record { rows = rows; columns = columns }) tests count
+  pub short : n ≤ 64
+  pub within : first + n ≤ rows
+
+-- a query, by its slots
+abbrev pub asked : List Test → ℕ → Query
+asked tests count = record { count = count; tests = tests }
+
+-- a segment scanned: 1 for each row found and 0 for every other place; each test's count, and 0 after the last
+pub record SegmentScanned (file : List ℕ) (tests : List Test) (count first n : ℕ) (segment : Segment) : Type 0 where
+  pub rows-found : (k : ℕ) → k < n →
+      getD (segment .found) k 0 ≡ cond (found comparing (bytesIn file) (testsIn file (asked tests count)) (first + k)) 1 0
+  pub rest : (k : ℕ) → n ≤ k → getD (segment .found) k 0 ≡ 0
+  pub counted : (t : ℕ) → t < count →
+      getD (segment .counts) t 0 ≡
+      countIn comparing (bytesIn file) (testsIn file (asked tests count)) (widened file (testAt tests t)) (run first n)
+  pub after : (t : ℕ) → count ≤ t → getD (segment .counts) t 0 ≡ 0
+  pub whole : (length (segment .found) ≡ 64) × (length (segment .counts) ≡ mostTests)

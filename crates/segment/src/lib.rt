@@ -1,0 +1,153 @@
+// Scans one segment of a register: which of its rows meet every test of a query, and how many bytes each
+// test needed. What the query asks of each slice is planned once for all segments.
+use query::Test;
+use register::Shape;
+use standings::in_rows;
+use standings::last_all;
+use standings::open_row;
+use standings::rule_all;
+use standings::step;
+ghost use mathlib.Core.Path.{_≡_};
+ghost use Prim.Native.Nat.{_+_, _*_, _≤_, _<_};
+ghost use lib.ListN.{length};
+ghost use Rattle.codes.specs.Width.{slicesOf};
+ghost use Rattle.codes.specs.Bytes.{byteOf};
+ghost use Rattle.codes.specs.Pad.{highOf};
+ghost use Rattle.standings.specs.Sweeps.{Swept};
+ghost use Rattle.segment.specs.Steps.{FitLiteral, Judged, Planned, SegmentFit, SegmentScanned};
+
+// The plan of a query, made once: where each test's column starts and how many slices it has, and the
+// low and high byte of its literal in each slice, four to a test.
+pub struct Plan {
+    pub offsets: [usize; 16],
+    pub slices: [usize; 16],
+    pub lows: [u8; 64],
+    pub highs: [u8; 64],
+}
+
+// A segment scanned: 1 for each row that is found, and each test's count.
+pub struct Segment {
+    pub found: [u8; 64],
+    pub counts: [usize; 16],
+}
+
+// Makes the plan of a query.
+pub fn plan_of(file: &[u8], shape: Shape, tests: [Test; 16], count: usize) -> Plan
+    requires { ⌜ Judged (now file) shape tests count ⌝ }
+    ensures { λ r. ⌜ Planned (now (file .entry)) tests count (r .offsets) (r .slices) (r .lows) (r .highs) ⌝ }
+{
+    let mut offsets = [0usize; 16];
+    let mut slices = [0usize; 16];
+    let mut lows = [0u8; 64];
+    let mut highs = [0u8; 64];
+    let mut t = 0;
+    while t < count {
+        let test = tests[t];
+        let column = test.column;
+        let width = register::width_at(file, shape, column);
+        let comparison = test.comparison;
+        let literal = query::literal_of(comparison);
+        offsets[t] = register::offset_at(file, shape, column);
+        slices[t] = codes::slices_of(width);
+        plan_bytes(width, literal, &mut lows, &mut highs, t * 4);
+        t = t + 1;
+    }
+    Plan {
+        offsets,
+        slices,
+        lows,
+        highs,
+    }
+}
+
+// Puts the bytes of each slice between which a row counts as equal to the literal, from a base on.
+fn plan_bytes(width: u8, literal: u64, lows: &mut [u8; 64], highs: &mut [u8; 64], base: usize)
+    requires { ⌜ FitLiteral width literal × (base + 4 ≤ 64) × (length (now lows) ≡ 64) × (length (now highs) ≡ 64) ⌝ }
+    ensures low { λ _. ⌜ Swept (now (lows .entry)) (now (lows .exit)) base (slicesOf width) (λ j. byteOf width literal j) ⌝ }
+    ensures high { λ _. ⌜ Swept (now (highs .entry)) (now (highs .exit)) base (slicesOf width) (λ j. highOf width j (byteOf width literal j)) ⌝ }
+{
+    let slices = codes::slices_of(width);
+    let mut j = 0;
+    while j < slices {
+        lows[base + j] = codes::byte_of(width, literal, j);
+        highs[base + j] = high_of(width, literal, j);
+        j = j + 1;
+    }
+}
+
+// The greatest byte of a slice that is the literal's when its pad is cleared.
+fn high_of(width: u8, literal: u64, slice: usize) -> u8
+    requires { ⌜ FitLiteral width literal × (slice < slicesOf width) ⌝ }
+    ensures { λ r. ⌜ r ≡ highOf width slice (byteOf width literal slice) ⌝ }
+{
+    let low = codes::byte_of(width, literal, slice);
+    if slice + 1 == codes::slices_of(width) {
+        (wide(low) + (codes::unit_of(width) - 1)) as u8
+    } else {
+        low
+    }
+}
+
+fn wide(x: u8) -> u64
+    ensures { λ r. ⌜ (r ≡ x) × (r < 256) ⌝ }
+{
+    x as u64
+}
+
+// Scans one segment of n rows: all tests take slice j before any row is ruled out by it, and the slices
+// end as soon as no test counts one.
+pub fn scan_segment(
+    file: &[u8],
+    rows: usize,
+    first: usize,
+    n: usize,
+    tests: [Test; 16],
+    count: usize,
+    offsets: &[usize; 16],
+    slices: &[usize; 16],
+    lows: &[u8; 64],
+    highs: &[u8; 64],
+) -> Segment
+    requires { ⌜ SegmentFit (now file) rows first n tests count ⌝ }
+    requires { ⌜ Planned (now file) tests count (now offsets) (now slices) (now lows) (now highs) ⌝ }
+    ensures { λ r. ⌜ SegmentScanned (now (file .entry)) tests count first n r ⌝ }
+{
+    let mut standings = [0u8; 1024];
+    let mut inside = in_rows(n);
+    let mut counts = [0usize; 16];
+    let mut j = 0;
+    'slices: while j < 4 {
+        let mut closed = true;
+        let mut t = 0;
+        'tests: while t < count {
+            if j < slices[t] {
+                let base = t * 64;
+                let mut open = 0u8;
+                let mut r = 0;
+                'rows: while r < n {
+                    open = open + open_row(standings[base + r], inside[r]);
+                    r = r + 1;
+                }
+                if 0 < open {
+                    let from = offsets[t] + j * rows + first;
+                    let low = lows[t * 4 + j];
+                    let high = highs[t * 4 + j];
+                    step(&file[from..from + n], &mut standings, base, low, high);
+                    counts[t] = counts[t] + n;
+                    closed = false;
+                }
+            }
+            t = t + 1;
+        }
+        if closed {
+            break 'slices;
+        }
+        rule_all(tests, count, &standings, &mut inside, n);
+        j = j + 1;
+    }
+    last_all(tests, count, &standings, &mut inside, n);
+    Segment {
+        found: inside,
+        counts,
+    }
+}
