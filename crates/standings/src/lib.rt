@@ -153,7 +153,7 @@ fn last(
 }
 
 // The same for all tests. This and `rule_all` are two loops, each with one caller, so that both become
-// part of it; one loop for both made short segments slower by a tenth.
+// part of it; one loop for both was slower with one test and short segments.
 pub fn last_all(
     tests: [Test; 16],
     count: usize,
