@@ -1,2 +1,3 @@
--- What reading an input whole answers.
+-- What reading an input whole answers, and what one write does.
 pub mod Taking
+pub mod Putting

@@ -1,9 +1,14 @@
-// Reading a whole input into a lent buffer: a descriptor, or a file by its name. The contracts say
-// how much of the buffer the answer counts. Which bytes stand there is the operating system's word,
-// and is not promised.
+// What the programs ask of the operating system: an input read whole into a lent buffer, a descriptor's or a file's by
+// its name, and bytes written to the last. The contracts say how much of the buffer an answer counts. Which bytes stand
+// there, and which arrive, is the operating system's word, and is not promised.
+mod putting;
+
+pub use putting::put_all;
+ghost use mathlib.Core.Path.{_≡_};
 ghost use Prim.Native.Nat.{_+_, _≤_};
+ghost use lib.Dec.{eqb};
 ghost use lib.ListN.{length};
-ghost use Rattle.files.specs.Taking.{countOf, TakenInto};
+ghost use Rattle.files.specs.Taking.{numberOf, countOf, takenBy, TakenInto, NotOpened};
 
 // The largest file that a program takes, in bytes. It lends one more, so that a larger file shows.
 pub const MOST_BYTES: usize = 65536;
@@ -12,6 +17,26 @@ pub const MOST_BYTES: usize = 65536;
 pub enum Taken {
     Bytes(usize),
     Unreadable,
+}
+
+// Whether the input was read: its number is not that of a refusal.
+pub fn is_read(taken: Taken) -> bool
+    ensures { λ r. ⌜ r ≡ eqb (numberOf taken) 0 ⌝ }
+{
+    match taken {
+        Taken::Bytes(_) => true,
+        Taken::Unreadable => false,
+    }
+}
+
+// How many bytes were read.
+pub fn bytes_of(taken: Taken) -> usize
+    ensures { λ r. ⌜ r ≡ countOf taken ⌝ }
+{
+    match taken {
+        Taken::Bytes(n) => n,
+        Taken::Unreadable => 0,
+    }
 }
 
 // Reads until the input ends or the buffer is full. A full buffer may not hold the whole input, so
@@ -39,13 +64,20 @@ pub fn read_file(path: &[u8], buffer: &mut [u8]) -> Taken
     ensures { λ r. ⌜ TakenInto (now (buffer .entry)) (now (buffer .exit)) r ⌝ }
 {
     let fd = os::open_read(path);
+    take_opened(fd, buffer)
+}
+
+// Reads what opening answered, a descriptor or a number below 0, and closes it.
+fn take_opened(fd: i32, buffer: &mut [u8]) -> Taken
+    ensures taken { λ r. ⌜ TakenInto (now (buffer .entry)) (now (buffer .exit)) r ⌝ }
+    ensures unopened { λ r. ⌜ (NotOpened fd → r ≡ Taken.Unreadable) ⌝ }
+{
     if fd < 0 {
-        Taken::Unreadable
-    } else {
-        let taken = take_all(fd, buffer);
-        libc::close(fd);
-        taken
+        return Taken::Unreadable;
     }
+    let taken = take_all(fd, buffer);
+    libc::close(fd);
+    taken
 }
 
 // One read into the buffer from a place on. No bytes: the input has ended. A read that a signal
@@ -56,8 +88,16 @@ fn take_more(fd: i32, buffer: &mut [u8], done: usize) -> Taken
 {
     let rest = &mut buffer[done..];
     let got = libc::read(fd, rest);
+    taken_by(got, rest)
+}
+
+// What a read into a part of the buffer says by its answer.
+fn taken_by(got: isize, part: &[u8]) -> Taken
+    ensures answer { λ r. ⌜ r ≡ takenBy got (length (now (part .entry))) ⌝ }
+    ensures within { λ r. ⌜ countOf r ≤ length (now (part .entry)) ⌝ }
+{
     if got < 0 {
         return Taken::Unreadable;
     }
-    Taken::Bytes(io::count(got, rest))
+    Taken::Bytes(io::count(got, part))
 }

@@ -1,6 +1,7 @@
 // Lists what a query finds in a register: the file is parts.bsl in the current folder, the query's text is standard input.
-// Prints the listing, or the line of a refusal.
+// Prints the listing, or the line of a refusal. Where not all of it can be written it says so on standard error.
 use files::Taken;
+use libc::STDERR_FILENO;
 use libc::STDIN_FILENO;
 use libc::STDOUT_FILENO;
 use listing::MOST_FILE;
@@ -8,75 +9,117 @@ use listing::MOST_TEXT;
 ghost use mathlib.Core.Path.{_≡_};
 ghost use Prim.Native.Nat.{_≤_, _<_};
 ghost use lib.ListN.{length};
-ghost use Rattle.files.specs.Taking.{countOf};
+ghost use Rattle.listing.specs.Inputs.{unreadInputs};
+ghost use Rattle.list_parts.specs.Printing.{refusedFile, TextTaken, PrintedOf};
 
 // Bytes that are printed at a time.
 const PIECE: usize = 65536;
 
+// How many bytes of the listing were written, of how many there are.
+struct Printed {
+    written: usize,
+    all: usize,
+}
+
 // Lends a byte more than is taken of each input, so that a larger one shows.
 fn main() {
+    if 1 < os::arg_count() {
+        say_usage();
+        return;
+    }
     let mut file = [0u8; MOST_FILE + 1];
     let mut text = [0u8; MOST_TEXT + 1];
     let mut out = [0u8; PIECE];
-    list_parts(&mut file, &mut text, &mut out);
+    let printed = list_parts(&mut file, &mut text, &mut out);
+    if printed.written < printed.all {
+        say_cut_short(printed.written, printed.all);
+    }
 }
 
 // Reads the file and the text into what is lent for them, and prints by way of `out`.
-fn list_parts(file: &mut [u8], text: &mut [u8], out: &mut [u8]) {
+fn list_parts(file: &mut [u8], text: &mut [u8], out: &mut [u8]) -> Printed
+    requires { ⌜ 0 < length (now out) ⌝ }
+    ensures { λ r. ⌜ r .written ≤ r .all ⌝ }
+{
     let taken = files::read_file(b"parts.bsl", file);
-    let given = files::take_all(STDIN_FILENO, text);
-    let file_bytes = bytes_of(taken);
-    let text_bytes = bytes_of(given);
+    let given = take_text(taken, text);
+    let file_bytes = files::bytes_of(taken);
+    let text_bytes = files::bytes_of(given);
     print_listing(
-        is_read(taken),
+        files::is_read(taken),
         &file[..file_bytes],
-        is_read(given),
+        files::is_read(given),
         &text[..text_bytes],
         out,
-    );
+    )
 }
 
-fn is_read(taken: Taken) -> bool {
-    match taken {
-        Taken::Bytes(_) => true,
-        Taken::Unreadable => false,
-    }
-}
-
-fn bytes_of(taken: Taken) -> usize
-    ensures { λ r. ⌜ r ≡ countOf taken ⌝ }
+// The text on standard input; where the file is refused, nothing is waited for.
+fn take_text(taken: Taken, text: &mut [u8]) -> Taken
+    ensures { λ r. ⌜ TextTaken taken (now (text .entry)) (now (text .exit)) r ⌝ }
 {
-    match taken {
-        Taken::Bytes(n) => n,
-        Taken::Unreadable => 0,
+    if is_refused(taken) {
+        return Taken::Unreadable;
     }
+    files::take_all(STDIN_FILENO, text)
 }
 
-// Prints the listing in pieces as long as `out`. It ends since each turn prints a byte at least.
-fn print_listing(taken: bool, file: &[u8], given: bool, text: &[u8], out: &mut [u8]) {
-    if out.len() == 0 {
-        return;
-    }
-    let all = listing::write_read(taken, file, given, text, 0, out);
-    let mut from = print_front(out, all);
-    while from < all {
-        listing::write_read(taken, file, given, text, from, out);
-        from = from + print_front(out, all - from);
-    }
+// Whether the file is refused by 18, which needs no text.
+fn is_refused(taken: Taken) -> bool
+    ensures { λ r. ⌜ r ≡ refusedFile taken ⌝ }
+{
+    listing::unread(files::is_read(taken), files::bytes_of(taken), MOST_FILE)
 }
 
-// Prints so many bytes from the front of `out`, or all of it where that is less. Answers how many.
-fn print_front(out: &[u8], left: usize) -> usize
+// Prints the listing in pieces as long as `out`, and stops at the first that cannot be written whole. It ends since each
+// turn before that writes a byte at least.
+fn print_listing(taken: bool, file: &[u8], given: bool, text: &[u8], out: &mut [u8]) -> Printed
     requires { ⌜ 0 < length (now out) ⌝ }
-    ensures { λ r. ⌜ (r ≤ left) × (0 < left → 0 < r) ⌝ }
+    ensures { λ r. ⌜ PrintedOf (unreadInputs taken (length (now (file .entry))) given (length (now (text .entry))))
+        (now (file .entry)) (now (text .entry)) r ⌝ }
 {
-    let n = least(out.len(), left);
-    io::write_all(STDOUT_FILENO, &out[..n]);
-    n
+    let all = listing::write_read(taken, file, given, text, 0, out);
+    let mut written: usize = 0;
+    loop {
+        let n = least(out.len(), all - written);
+        let put = files::put_all(STDOUT_FILENO, &out[..n]);
+        written = written + put;
+        if put < n {
+            return Printed { written, all };
+        }
+        if all <= written {
+            return Printed { written, all };
+        }
+        listing::write_read(taken, file, given, text, written, out);
+    }
 }
 
 fn least(a: usize, b: usize) -> usize
     ensures { λ r. ⌜ (r ≤ a) × (r ≤ b) × (0 < a → 0 < b → 0 < r) ⌝ }
 {
     if a < b { a } else { b }
+}
+
+// Says that the listing is not whole, why, and how much of it was written: just after the write that failed, so that the
+// system's reason is that write's.
+fn say_cut_short(written: usize, all: usize) {
+    os::fail(b"list_parts: the listing is not whole");
+    say(b"list_parts: ");
+    io::print_decimal(STDERR_FILENO, written as u64);
+    say(b" of ");
+    io::print_decimal(STDERR_FILENO, all as u64);
+    say(b" bytes were written\n");
+}
+
+// Says how the program is called.
+fn say_usage() {
+    say(b"usage: list_parts < QUERY\n");
+    say(
+        b"It takes no argument: it reads the register parts.bsl in the current folder and the query on standard input.\n",
+    );
+}
+
+// Says words on standard error. Where these cannot be written there is nowhere to say it.
+fn say(words: &[u8]) {
+    io::write_all(STDERR_FILENO, words);
 }

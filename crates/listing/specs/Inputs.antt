@@ -9,7 +9,7 @@ use Rattle.lines.specs.Lines.{refusedLine}
 use Rattle.listing.specs.Listing.{Listed}
 
 -- a file of more than 65,536 bytes is not taken, nor a text of more than 4,096
-abbrev mostFile : ℕ
+abbrev pub mostFile : ℕ
 mostFile = 65536
 
 abbrev mostText : ℕ

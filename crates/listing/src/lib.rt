@@ -50,7 +50,7 @@ pub fn write_read(
 }
 
 // Whether an input is unfit to be taken.
-fn unread(read: bool, length: usize, most: usize) -> bool
+pub fn unread(read: bool, length: usize, most: usize) -> bool
     ensures { λ r. ⌜ r ≡ unreadInput read length most ⌝ }
 {
     if read { most < length } else { true }

@@ -1,54 +1,76 @@
--- `list_parts::print_listing` prints pieces of a buffer that is not empty. The measure is how many bytes are left to print.
--- Assumes nothing.
-use Prim.Native.Nat.{_-_, _≤_, _<_}
-use native.Mathlib.Omega.{arith}
-use mathlib.Core.Path.{_≡_}
-use lib.ListN.{length}
-use borrow.Author.Needs.{needs}
 use Rattle.list_parts.proofs.print_listing.Statement.{statement}
 use Rattle.list_parts.proofs.print_listing.Tie as tie
+use Rattle.list_parts.proofs.print_listing.Reads as reads
+use Rattle.list_parts.proofs.print_listing.Lts as lts
+use Rattle.files.proofs.put_all.Reads as put-all-reads
+use Rattle.list_parts.proofs.least.Reads as least-reads
+use Rattle.listing.proofs.write_read.Reads as write-read-reads
 
 abbrev Inv-loop : tie.InvT-loop
-Inv-loop taken file given text out₀ all from₀ out from = (0 < length out) × ((length out ≡ length out₀) × (from ≤ all))
+Inv-loop taken file given text out₀ all written₀ out written = ?
 
 abbrev μ-loop : tie.MeasureT-loop
-μ-loop taken file given text out₀ all from₀ out from = all - from
+μ-loop taken file given text out₀ all written₀ out written = ?
 
-returns : tie.Need-returns Inv-loop μ-loop
-returns c = search needs
-
+-- src/main.rt:81:9
 write-read-requires : tie.Need-write-read-requires Inv-loop μ-loop
-write-read-requires c κs = search needs
+write-read-requires c κs = ?
 
-print-front-requires : tie.Need-print-front-requires Inv-loop μ-loop
-print-front-requires c κs = search needs
-
+-- src/main.rt:83:5
 loop-holds : tie.Need-loop-holds Inv-loop μ-loop
-loop-holds c = search needs
+loop-holds c = ?
 
-write-read-requires-2 : tie.Need-write-read-requires-2 Inv-loop μ-loop
-write-read-requires-2 c κs = search needs
+-- src/main.rt:84:34
+sub-least : tie.Need-sub-least Inv-loop μ-loop
+sub-least c = ?
 
-sub-print-front : tie.Need-sub-print-front Inv-loop μ-loop
-sub-print-front c = search needs
+-- src/main.rt:84:13
+least-requires : tie.Need-least-requires Inv-loop μ-loop
+least-requires c κs = ?
 
-print-front-requires-2 : tie.Need-print-front-requires-2 Inv-loop μ-loop
-print-front-requires-2 c κs = search needs
+-- src/main.rt:85:49
+slice-reshare-prefix-put-all : tie.Need-slice-reshare-prefix-put-all Inv-loop μ-loop
+slice-reshare-prefix-put-all c = ?
 
-add-from : tie.Need-add-from Inv-loop μ-loop
-add-from c = search needs
+-- src/main.rt:85:49
+slice-aggregate-put-all : tie.Need-slice-aggregate-put-all Inv-loop μ-loop
+slice-aggregate-put-all c = ?
 
-loop-less : tie.Need-loop-less Inv-loop μ-loop
-loop-less c = omega (arith, c .print-front2 .ensures .1 (omega arith))
+-- src/main.rt:85:13
+put-all-requires : tie.Need-put-all-requires Inv-loop μ-loop
+put-all-requires c κs = ?
 
-loop-again : tie.Need-loop-again Inv-loop μ-loop
-loop-again c = search needs
+-- src/main.rt:86:19
+add-written : tie.Need-add-written Inv-loop μ-loop
+add-written c = ?
 
+-- src/main.rt:88:13
 same-length : tie.Need-same-length Inv-loop μ-loop
-same-length c = search needs
+same-length c = ?
 
+-- src/main.rt:88:13
+returns : tie.Need-returns Inv-loop μ-loop
+returns c = ?
+
+-- src/main.rt:91:13
+same-length-2 : tie.Need-same-length-2 Inv-loop μ-loop
+same-length-2 c = ?
+
+-- src/main.rt:91:13
 returns-2 : tie.Need-returns-2 Inv-loop μ-loop
-returns-2 c = search needs
+returns-2 c = ?
+
+-- src/main.rt:93:9
+write-read-requires-2 : tie.Need-write-read-requires-2 Inv-loop μ-loop
+write-read-requires-2 c κs = ?
+
+-- src/main.rt:83:5
+loop-less : tie.Need-loop-less Inv-loop μ-loop
+loop-less c = ?
+
+-- src/main.rt:83:5
+loop-again : tie.Need-loop-again Inv-loop μ-loop
+loop-again c = ?
 
 pub print-listing-spec : {M : Type 1} → statement M
 print-listing-spec =
@@ -56,15 +78,18 @@ print-listing-spec =
     (tie.spec
     Inv-loop
     μ-loop
-    returns
     write-read-requires
-    print-front-requires
     loop-holds
-    write-read-requires-2
-    sub-print-front
-    print-front-requires-2
-    add-from
-    loop-less
-    loop-again
+    sub-least
+    least-requires
+    slice-reshare-prefix-put-all
+    slice-aggregate-put-all
+    put-all-requires
+    add-written
     same-length
-    returns-2)
+    returns
+    same-length-2
+    returns-2
+    write-read-requires-2
+    loop-less
+    loop-again)

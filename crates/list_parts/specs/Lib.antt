@@ -1,0 +1,2 @@
+-- What the steps of the listing program answer.
+pub mod Printing

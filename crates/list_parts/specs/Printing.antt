@@ -1,0 +1,29 @@
+-- What the program's steps answer, as far as it does not hang on the operating system. Assumes nothing.
+use Prim.Native.Nat.{ℕ, _≤_}
+use mathlib.Core.Path.{_≡_}
+use mathlib.Core.List.{List}
+use mathlib.Core.Bool.{Bool, true}
+use lib.Dec.{eqb}
+use Rattle.files.specs.declared.Taken.{Taken}
+use Rattle.files.specs.declared.Taken.the-variants.{Unreadable}
+use Rattle.files.specs.Taking.{numberOf, countOf, TakenInto}
+use Rattle.listing.specs.Inputs.{mostFile, unreadInput, ListedRead}
+use Rattle.list_parts.specs.declared.Printed.{Printed}
+
+-- a file that was read answers no number
+abbrev pub isRead : Taken → Bool
+isRead taken = eqb (numberOf taken) 0
+
+-- 18 for the file: it was not read, or has too many bytes
+abbrev pub refusedFile : Taken → Bool
+refusedFile taken = unreadInput (isRead taken) (countOf taken) mostFile
+
+-- the text is taken into its buffer; where the file is refused none is, and the buffer is as it was
+pub record TextTaken (file : Taken) (before after : List ℕ) (text : Taken) : Type 0 where
+  pub into : TakenInto before after text
+  pub none-asked : refusedFile file ≡ true → (text ≡ Unreadable) × (after ≡ before)
+
+-- no more is printed than there is, and what there is is as long as what the inputs list
+pub record PrintedOf (unread : Bool) (file text : List ℕ) (printed : Printed) : Type 0 where
+  pub within : printed .written ≤ printed .all
+  pub whole : (before after : List ℕ) × ListedRead unread file text 0 before after (printed .all)
