@@ -8,9 +8,10 @@ use listing::MOST_FILE;
 use listing::MOST_TEXT;
 ghost use mathlib.Core.Path.{_≡_};
 ghost use Prim.Native.Nat.{_≤_, _<_};
-ghost use lib.ListN.{length};
+ghost use lib.ListN.{length, take};
+ghost use Rattle.files.specs.Taking.{countOf};
 ghost use Rattle.listing.specs.Inputs.{unreadInputs};
-ghost use Rattle.list_parts.specs.Printing.{refusedFile, TextTaken, PrintedOf};
+ghost use Rattle.list_parts.specs.Printing.{isRead, refusedFile, TextTaken, PrintedOf};
 
 // Bytes that are printed at a time.
 const PIECE: usize = 65536;
@@ -43,6 +44,15 @@ fn list_parts(file: &mut [u8], text: &mut [u8], out: &mut [u8]) -> Printed
 {
     let taken = files::read_file(b"parts.bsl", file);
     let given = take_text(taken, text);
+    print_taken(taken, file, given, text, out)
+}
+
+// Prints the listing of what was taken of the two inputs.
+fn print_taken(taken: Taken, file: &[u8], given: Taken, text: &[u8], out: &mut [u8]) -> Printed
+    requires { ⌜ (0 < length (now out)) × (countOf taken ≤ length (now file)) × (countOf given ≤ length (now text)) ⌝ }
+    ensures { λ r. ⌜ PrintedOf (unreadInputs (isRead taken) (countOf taken) (isRead given) (countOf given))
+        (take (countOf taken) (now (file .entry))) (take (countOf given) (now (text .entry))) r ⌝ }
+{
     let file_bytes = files::bytes_of(taken);
     let text_bytes = files::bytes_of(given);
     print_listing(

@@ -1,76 +1,52 @@
+-- `list_parts::print_listing` meets its contract: each piece is what `out` holds or what is left. The measure is how many bytes are
+-- left to print. Assumes nothing.
+use Prim.Native.Nat.{_-_, _≤_, _<_}
+use native.Mathlib.Omega.{arith}
+use mathlib.Core.Path.{_≡_, sym}
+use mathlib.Core.List.{List}
+use lib.ListN.{length}
+use lib.Seq.{length-take-le}
+use borrow.Author.Needs.{needs}
+use Rattle.listing.specs.Inputs.{unreadInputs, ListedRead}
+use Rattle.list_parts.specs.Printing.{PrintedOf}
 use Rattle.list_parts.proofs.print_listing.Statement.{statement}
 use Rattle.list_parts.proofs.print_listing.Tie as tie
-use Rattle.list_parts.proofs.print_listing.Reads as reads
-use Rattle.list_parts.proofs.print_listing.Lts as lts
-use Rattle.files.proofs.put_all.Reads as put-all-reads
-use Rattle.list_parts.proofs.least.Reads as least-reads
-use Rattle.listing.proofs.write_read.Reads as write-read-reads
 
 abbrev Inv-loop : tie.InvT-loop
-Inv-loop taken file given text out₀ all written₀ out written = ?
+Inv-loop taken file given text out₀ all written₀ out written =
+    (0 < length out) × (length out ≡ length out₀)
+    × PrintedOf (unreadInputs taken (length file) given (length text)) file text (record { written = written; all = all })
 
 abbrev μ-loop : tie.MeasureT-loop
-μ-loop taken file given text out₀ all written₀ out written = ?
+μ-loop taken file given text out₀ all written₀ out written = all - written
 
--- src/main.rt:81:9
-write-read-requires : tie.Need-write-read-requires Inv-loop μ-loop
-write-read-requires c κs = ?
+-- a piece is the front of `out`, and no more of it is taken than there is
+front : (c : tie.After-put-all Inv-loop μ-loop) → c .put-all .result ≤ c .before .before .least .result
+front c =
+    let out = c .before .before .before .loop .out in
+    let n = c .before .before .least .result in
+    omega (arith, length-take-le n out (omega arith))
 
--- src/main.rt:83:5
 loop-holds : tie.Need-loop-holds Inv-loop μ-loop
-loop-holds c = ?
+loop-holds c = (omega arith, search needs, record { within = omega arith; whole = (_, _, c .before .before .write-read .ensures) })
 
--- src/main.rt:84:34
-sub-least : tie.Need-sub-least Inv-loop μ-loop
-sub-least c = ?
-
--- src/main.rt:84:13
-least-requires : tie.Need-least-requires Inv-loop μ-loop
-least-requires c κs = ?
-
--- src/main.rt:85:49
-slice-reshare-prefix-put-all : tie.Need-slice-reshare-prefix-put-all Inv-loop μ-loop
-slice-reshare-prefix-put-all c = ?
-
--- src/main.rt:85:49
 slice-aggregate-put-all : tie.Need-slice-aggregate-put-all Inv-loop μ-loop
-slice-aggregate-put-all c = ?
+slice-aggregate-put-all c = sym (length-take-le _ _ (omega arith))
 
--- src/main.rt:85:13
-put-all-requires : tie.Need-put-all-requires Inv-loop μ-loop
-put-all-requires c κs = ?
-
--- src/main.rt:86:19
 add-written : tie.Need-add-written Inv-loop μ-loop
-add-written c = ?
+add-written c = omega (arith, front c)
 
--- src/main.rt:88:13
-same-length : tie.Need-same-length Inv-loop μ-loop
-same-length c = ?
-
--- src/main.rt:88:13
 returns : tie.Need-returns Inv-loop μ-loop
-returns c = ?
+returns c = record { within = omega (arith, front (c .before)); whole = c .before .before .before .before .loop .inv .2 .whole }
 
--- src/main.rt:91:13
-same-length-2 : tie.Need-same-length-2 Inv-loop μ-loop
-same-length-2 c = ?
-
--- src/main.rt:91:13
 returns-2 : tie.Need-returns-2 Inv-loop μ-loop
-returns-2 c = ?
+returns-2 c = record { within = omega (arith, front (c .before .before)); whole = c .before .before .before .before .before .loop .inv .2 .whole }
 
--- src/main.rt:93:9
-write-read-requires-2 : tie.Need-write-read-requires-2 Inv-loop μ-loop
-write-read-requires-2 c κs = ?
-
--- src/main.rt:83:5
 loop-less : tie.Need-loop-less Inv-loop μ-loop
-loop-less c = ?
+loop-less c = omega (arith, c .before .before .before .before .before .before .before .before .least .ensures .2 (omega arith) (omega arith))
 
--- src/main.rt:83:5
 loop-again : tie.Need-loop-again Inv-loop μ-loop
-loop-again c = ?
+loop-again c = (omega arith, search needs, record { within = omega arith; whole = c .before .before .before .before .before .before .before .before .before .loop .inv .2 .whole })
 
 pub print-listing-spec : {M : Type 1} → statement M
 print-listing-spec =
@@ -78,18 +54,18 @@ print-listing-spec =
     (tie.spec
     Inv-loop
     μ-loop
-    write-read-requires
+    (λ c κs. search needs)
     loop-holds
-    sub-least
-    least-requires
-    slice-reshare-prefix-put-all
+    (λ c. search needs)
+    (λ c κs. search needs)
+    (λ c. search needs)
     slice-aggregate-put-all
-    put-all-requires
+    (λ c κs. search needs)
     add-written
-    same-length
+    (λ c. search needs)
     returns
-    same-length-2
+    (λ c. search needs)
     returns-2
-    write-read-requires-2
+    (λ c κs. search needs)
     loop-less
     loop-again)

@@ -1,31 +1,20 @@
+-- `list_parts::take_text` meets its contract: standard input is read only where the file is not refused. Assumes nothing.
+use native.Mathlib.Omega.{arith}
+use Prim.Native.Nat.{ℕ}
+use mathlib.Core.Path.{_≡_, sym, _∙_}
+use mathlib.Core.Bool.{true, false}
 use borrow.Author.Needs.{needs}
 use Rattle.list_parts.proofs.take_text.Statement.{statement}
 use Rattle.list_parts.proofs.take_text.Tie as tie
-use Rattle.list_parts.proofs.take_text.Reads as reads
-use Rattle.list_parts.proofs.take_text.Lts as lts
-use Rattle.files.proofs.take_all.Reads as take-all-reads
-use Rattle.list_parts.proofs.is_refused.Reads as is-refused-reads
 
--- src/main.rt:61:8
-is-refused-requires : tie.Need-is-refused-requires
-is-refused-requires c κs = search needs
-
--- src/main.rt:62:9
-returns : tie.Need-returns
-returns c = search needs
-
--- src/main.rt:64:5
-take-all-requires : tie.Need-take-all-requires
-take-all-requires c κs = search needs
-
--- src/main.rt:58:1
-same-length : tie.Need-same-length
-same-length c = search needs
-
--- src/main.rt:58:1
 returns-2 : tie.Need-returns-2
-returns-2 c = ?
+returns-2 c =
+    let judged = c .before .before .before .before .before .before in
+    record {
+      into = search needs;
+      none-asked = λ refused. let z : _≡_ {A = ℕ} 0 1 = cc in absurd (omega arith);
+    }
 
 pub take-text-spec : {M : Type 1} → statement M
 take-text-spec =
-    tie.close (tie.spec is-refused-requires returns take-all-requires same-length returns-2)
+    tie.close (tie.spec (λ c κs. search needs) (λ c. search needs) (λ c κs. search needs) (λ c. search needs) returns-2)
