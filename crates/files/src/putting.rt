@@ -2,6 +2,7 @@
 // fails not a byte more is written.
 use libc::EAGAIN;
 use libc::EINTR;
+use libc::types::timespec;
 ghost use mathlib.Core.Path.{_≡_};
 ghost use Prim.Native.Nat.{_+_, _≤_};
 ghost use lib.ListN.{length};
@@ -74,6 +75,12 @@ fn put_for(error: i32) -> Put
     Put::Failed
 }
 
+// Waits two milliseconds, or less where a signal comes. What is left of them then is not asked for.
 fn pause() {
-    libc::sched_yield();
+    let asked = timespec {
+        tv_sec: 0,
+        tv_nsec: 2000000,
+    };
+    let mut left = asked;
+    libc::nanosleep(&asked, &mut left);
 }
