@@ -1,5 +1,6 @@
 // Which pickups does a query find? Scans a register, lists the rows found, and prints the first column of each.
-// Ends with status 0, or 1 after a refusal, or 2 where a file cannot be read or memory is short; what went wrong goes to stderr.
+// Ends with status 0, or 1 after a refusal, or 2 where a file cannot be read, the output cannot be written or memory is short; what went
+// wrong goes to stderr.
 // usage: recall QUERY [REGISTER]     REGISTER: examples/recall/parts.bsl when none is named
 #include <inttypes.h>
 #include <stdio.h>
@@ -45,6 +46,19 @@ static void accepted(const char *call, const uint64_t *reply) {
     exit(1);
 }
 
+static void unwritable(void) {
+    perror("recall: standard output");
+    exit(2);
+}
+
+// A full disk may show only when the last bytes leave, so closing is looked at too.
+static void print_rows(const uint32_t *found, const uint64_t *codes, size_t matches) {
+    if (printf("matches %zu\n", matches) < 0) unwritable();
+    for (size_t i = 0; i < matches; i++)
+        if (printf("row %" PRIu32 ": %" PRIu64 "\n", found[i], codes[i]) < 0) unwritable();
+    if (fflush(stdout) || fclose(stdout)) unwritable();
+}
+
 int main(int words, char **word) {
     if (words != 2 && words != 3) {
         fputs("usage: recall QUERY [REGISTER]\n", stderr);
@@ -74,8 +88,7 @@ int main(int words, char **word) {
     bsl_lookup(parts.at, parts.length, 0, found, matches, codes, matches, looked_up);
     accepted("lookup", looked_up);
 
-    printf("matches %zu\n", matches);
-    for (size_t i = 0; i < matches; i++) printf("row %" PRIu32 ": %" PRIu64 "\n", found[i], codes[i]);
+    print_rows(found, codes, matches);
 
     free(codes);
     free(found);
