@@ -1,6 +1,9 @@
 //! A query: a segment size and up to 16 tests that a row must all meet.
 
 use std::fmt;
+use std::str::FromStr;
+
+use crate::Refusal;
 
 /// How a code is compared with a literal.
 #[derive(Clone, Copy, Debug, PartialEq, Eq, Hash)]
@@ -48,13 +51,13 @@ pub struct Test {
     pub literal: u64,
 }
 
-/// A query. Printed, it is the text that the scan takes.
+/// A query. Printed, it is the text that the scan takes; parsed, it is what [`read`](crate::read) answers.
 ///
 /// ```
 /// use rutksmeln::{Comparison, Query, Test};
 /// let query = Query { size: 8, tests: vec![Test { column: 0, comparison: Comparison::Less, literal: 512 }] };
 /// assert_eq!(query.to_string(), "segment 8\n0 < 512\n");
-/// assert_eq!(rutksmeln::read(query.to_string().as_bytes()), Ok(query));
+/// assert_eq!("segment 8\n0 < 512\n".parse(), Ok(query));
 /// ```
 #[derive(Clone, Debug, PartialEq, Eq, Hash)]
 pub struct Query {
@@ -71,5 +74,13 @@ impl fmt::Display for Query {
             writeln!(to, "{} {} {}", test.column, test.comparison.sign(), test.literal)?;
         }
         Ok(())
+    }
+}
+
+impl FromStr for Query {
+    type Err = Refusal;
+
+    fn from_str(text: &str) -> Result<Query, Refusal> {
+        crate::read(text.as_bytes())
     }
 }

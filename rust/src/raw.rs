@@ -6,6 +6,8 @@
 
 /// Elements of the reply of [`bsl_open`]: number, place, need, rows, columns.
 pub const OPEN_REPLY: usize = 5;
+/// Elements of the reply of [`bsl_widths`]: number, place, need, columns.
+pub const WIDTHS_REPLY: usize = 4;
 /// Elements of the reply of [`bsl_write`]: number, place, need, bytes.
 pub const WRITE_REPLY: usize = 4;
 /// Elements of the reply of [`bsl_read`]: number, place, need, size, count, and 16 times column, comparison, literal.
@@ -20,6 +22,8 @@ pub const LOOKUP_REPLY: usize = 4;
 extern "C" {
     /// Opens a register.
     pub fn bsl_open(file: *const u8, length: usize, reply: *mut u64);
+    /// Tells the bits of each column of a register.
+    pub fn bsl_widths(file: *const u8, length: usize, out: *mut u8, out_length: usize, reply: *mut u64);
     /// Writes a register from codes, row after row.
     pub fn bsl_write(
         rows: usize,
