@@ -1,11 +1,11 @@
 //! Each call made of the library and of the twin on the same input, and everything compared: every element of the reply, of each
 //! buffer and of what stands around them. What is lent to be read must not change either.
 
-use rutksmeln::{raw, Refusal};
+use rutksmeln::{raw, Call, Refusal};
 
 use crate::chance::Chance;
 use crate::lent::{Element, Guards, Lent};
-use crate::tally::{Call, Tally};
+use crate::tally::Tally;
 
 /// What was answered, or how library and twin differ.
 pub type Verdict<T> = Result<T, String>;
@@ -33,8 +33,23 @@ impl Bench {
         expected.part_mut().copy_from_slice(&answer);
         let differs = [reply.difference("reply", &expected), lent.difference("file", &before)];
         self.judge(Call::Open, answer[0], &differs, || format!("file {}", hex(file)))?;
-        self.judge_safe(&answer, "open", || rutksmeln::open(file).map(|shape| vec![shape.rows as u64, shape.columns as u64]))?;
+        self.judge_safe(&answer, Call::Open, || rutksmeln::open(file).map(|shape| vec![shape.rows as u64, shape.columns as u64]))?;
         Ok(answer)
+    }
+
+    /// The answer, and the bytes of the buffer after it.
+    pub fn widths(&mut self, file: &[u8], room: usize) -> Verdict<([u64; 4], Vec<u8>)> {
+        let (lent, before) = self.lent(file);
+        let (mut out, mut expected_out) = self.blank(room);
+        let (mut reply, mut expected) = self.blank(raw::WIDTHS_REPLY);
+        // SAFETY: what is lent is good for its length, and the reply has its elements.
+        unsafe { raw::bsl_widths(lent.part().as_ptr(), file.len(), out.part_mut().as_mut_ptr(), room, reply.part_mut().as_mut_ptr()) };
+        let answer = twin::widths(file, expected_out.part_mut());
+        expected.part_mut().copy_from_slice(&answer);
+        let differs = [reply.difference("reply", &expected), out.difference("out", &expected_out), lent.difference("file", &before)];
+        self.judge(Call::Widths, answer[0], &differs, || format!("file {} room {room}", hex(file)))?;
+        self.judge_safe(&answer, Call::Widths, || rutksmeln::widths(file, &mut vec![0; room]).map(|columns| vec![columns as u64]))?;
+        Ok((answer, out.part().to_vec()))
     }
 
     /// The answer, and the bytes of the buffer after it.
@@ -65,7 +80,9 @@ impl Bench {
             lent_codes.difference("codes", &codes_before),
         ];
         self.judge(Call::Write, answer[0], &differs, || format!("rows {rows} widths {widths:?} codes {codes:?} room {room}"))?;
-        self.judge_safe(&answer, "write", || rutksmeln::write(rows, widths, codes, &mut vec![0; room]).map(|bytes| vec![bytes as u64]))?;
+        self.judge_safe(&answer, Call::Write, || {
+            rutksmeln::write(rows, widths, codes, &mut vec![0; room]).map(|bytes| vec![bytes as u64])
+        })?;
         Ok((answer, out.part().to_vec()))
     }
 
@@ -78,7 +95,7 @@ impl Bench {
         expected.part_mut().copy_from_slice(&answer);
         let differs = [reply.difference("reply", &expected), lent.difference("text", &before)];
         self.judge(Call::Read, answer[0], &differs, || format!("text {}", quoted(text)))?;
-        self.judge_safe(&answer, "read", || {
+        self.judge_safe(&answer, Call::Read, || {
             let query = rutksmeln::read(text)?;
             let mut values = vec![query.size, query.tests.len() as u64];
             for test in query.tests {
@@ -115,8 +132,12 @@ impl Bench {
             lent_text.difference("text", &text_before),
         ];
         self.judge(Call::Scan, answer[0], &differs, || format!("file {} text {} room {room}", hex(file), quoted(text)))?;
-        self.judge_safe(&answer, "scan", || {
-            let scanned = rutksmeln::scan(file, text, &mut vec![0; room])?;
+        self.judge_safe(&answer, Call::Scan, || {
+            let mut out = vec![0; room];
+            let scanned = match rutksmeln::read(text) {
+                Ok(query) => rutksmeln::scan_query(file, &query, &mut out)?,
+                Err(_) => rutksmeln::scan(file, text, &mut out)?,
+            };
             let mut values = vec![scanned.matches as u64, scanned.total];
             values.extend(scanned.counts);
             Ok(values)
@@ -135,7 +156,7 @@ impl Bench {
         expected.part_mut().copy_from_slice(&answer);
         let differs = [reply.difference("reply", &expected), out.difference("out", &expected_out), lent.difference("bits", &before)];
         self.judge(Call::List, answer[0], &differs, || format!("rows {rows} bits {} room {room}", hex(bits)))?;
-        self.judge_safe(&answer, "list", || rutksmeln::list(rows, bits, &mut vec![0; room]).map(|listed| vec![listed as u64]))?;
+        self.judge_safe(&answer, Call::List, || rutksmeln::list(rows, bits, &mut vec![0; room]).map(|listed| vec![listed as u64]))?;
         Ok((answer, out.part().to_vec()))
     }
 
@@ -166,8 +187,10 @@ impl Bench {
             lent_file.difference("file", &file_before),
             lent_rows.difference("rows", &rows_before),
         ];
-        self.judge(Call::Lookup, answer[0], &differs, || format!("file {} column {column} rows {rows:?} room {room}", hex(file)))?;
-        self.judge_safe(&answer, "lookup", || rutksmeln::look_up(file, column, rows, &mut vec![0; room]).map(|codes| vec![codes as u64]))?;
+        self.judge(Call::LookUp, answer[0], &differs, || format!("file {} column {column} rows {rows:?} room {room}", hex(file)))?;
+        self.judge_safe(&answer, Call::LookUp, || {
+            rutksmeln::look_up(file, column, rows, &mut vec![0; room]).map(|codes| vec![codes as u64])
+        })?;
         Ok((answer, out.part().to_vec()))
     }
 
@@ -190,7 +213,7 @@ impl Bench {
         let found: Vec<&str> = differs.iter().flatten().map(String::as_str).collect();
         match found.is_empty() {
             true => Ok(()),
-            false => Err(format!("{call:?} differs: {}\ninput: {}", found.join("; "), input())),
+            false => Err(format!("{call} differs: {}\ninput: {}", found.join("; "), input())),
         }
     }
 
@@ -198,7 +221,7 @@ impl Bench {
     fn judge_safe<const N: usize>(
         &mut self,
         answer: &[u64; N],
-        call: &str,
+        call: Call,
         safe: impl FnOnce() -> Result<Vec<u64>, Refusal>,
     ) -> Verdict<()> {
         if !self.chance.one_in(16) {
@@ -206,6 +229,7 @@ impl Bench {
         }
         let mut told = [0; N];
         match safe() {
+            Err(refusal) if refusal.call != call => return Err(format!("the safe {call} is refused as another call: {refusal}")),
             Err(refusal) => told[..3].copy_from_slice(&[refusal.number, refusal.place, refusal.need]),
             Ok(values) => told[3..3 + values.len()].copy_from_slice(&values),
         }

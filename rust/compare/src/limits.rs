@@ -21,6 +21,7 @@ fn most_rows(bench: &mut Bench) -> Verdict<()> {
         let (_, written) = bench.write(rows, &widths, &codes, length)?;
         let file = if rows > MOST_ROWS { with_one_more_row() } else { written };
         bench.open(&file)?;
+        bench.widths(&file, 2)?;
         for size in [8, 64] {
             let text = format!("segment {size}\n0 < 300\n1 = 1\n0 != 7\n");
             let scan = bench.scan(&file, text.as_bytes(), rows.div_ceil(8))?;
@@ -53,6 +54,9 @@ fn most_columns(bench: &mut Bench) -> Verdict<()> {
     widths[31] = 33;
     bench.write(2, &widths, &codes, 1000)?;
     let file = file_of(2, &[32; 32], &codes);
+    for room in 0..=34 {
+        bench.widths(&file, room)?;
+    }
     bench.scan(&file, b"segment 8\n31 = 4294967264\n", 1)?;
     bench.scan(&file, b"segment 8\n32 = 4294967264\n", 1)?;
     bench.look_up(&file, 31, &[1, 0], 2)?;
@@ -74,6 +78,8 @@ fn most_tests(bench: &mut Bench) -> Verdict<()> {
 /// Nothing lent, nothing asked.
 fn nothing(bench: &mut Bench) -> Verdict<()> {
     bench.open(&[])?;
+    bench.widths(&[], 0)?;
+    bench.widths(&file_of(0, &[1], &[]), 0)?;
     bench.write(0, &[], &[], 0)?;
     bench.write(0, &[1], &[], 0)?;
     bench.write(0, &[1], &[], 24)?;

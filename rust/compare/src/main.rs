@@ -1,5 +1,6 @@
 //! Holds the proved library to its twin: calls by chance, everything compared, and the laws of the scan tried on what is answered.
-//! Ends with status 0 when nothing differs, 1 at the first difference, 2 when it is not asked rightly.
+//! Ends with status 0 when nothing differs, 1 at the first difference, 2 when it is not asked rightly. A long comparison tells on standard
+//! error how far it is.
 //!
 //! usage: compare SEED CALLS [WORD...]
 //!   damaged    only files that something happened to
@@ -13,6 +14,7 @@ mod damage;
 mod laws;
 mod lent;
 mod limits;
+mod progress;
 mod registers;
 mod rounds;
 mod tally;
@@ -24,6 +26,7 @@ use std::process::ExitCode;
 use calls::{Bench, Verdict};
 use chance::Chance;
 use lent::Guards;
+use progress::Progress;
 use tally::Tally;
 use twin::Fault;
 
@@ -78,7 +81,7 @@ fn compare(asked: &Asked) -> Verdict<()> {
     tally.print();
     let all = asked.calls >= ENOUGH && !asked.damaged && asked.round.is_none();
     if let (true, Some((call, number))) = (all, tally.missing()) {
-        return Err(format!("{call:?} never answered {number}"));
+        return Err(format!("{call} never answered {number}"));
     }
     println!("{} calls compared, no difference, seed {}", tally.calls(), asked.seed);
     Ok(())
@@ -91,6 +94,7 @@ fn compared(asked: &Asked, with_limits: bool) -> Verdict<Tally> {
         limits::limits(&mut bench)?;
     }
     let mut round = asked.round.unwrap_or(0);
+    let mut progress = Progress::of(asked.calls);
     while bench.tally.calls() < asked.calls {
         bench.chance = Chance::of_round(asked.seed, round);
         let done = if asked.damaged { rounds::damaged_round(&mut bench) } else { rounds::round(&mut bench) };
@@ -98,6 +102,7 @@ fn compared(asked: &Asked, with_limits: bool) -> Verdict<Tally> {
         if asked.round.is_some() {
             break;
         }
+        progress.tell(bench.tally.calls());
         round += 1;
     }
     Ok(bench.tally)

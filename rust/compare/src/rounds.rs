@@ -11,6 +11,7 @@ use crate::texts::{self, Query, Test};
 pub fn round(bench: &mut Bench) -> Verdict<()> {
     let register = Register::by_chance(&mut bench.chance);
     bench.open(&register.file)?;
+    widths(bench, &register)?;
     writes(bench, &register)?;
     texts_read(bench, &register)?;
     scans(bench, &register)?;
@@ -26,6 +27,16 @@ pub fn damaged_round(bench: &mut Bench) -> Verdict<()> {
     let register = Register::by_chance(&mut bench.chance);
     bench.open(&register.file)?;
     damaged_files(bench, &register)
+}
+
+/// Room for as many widths as there are columns, for one less and one more, and for some other number.
+fn widths(bench: &mut Bench, register: &Register) -> Verdict<()> {
+    let columns = register.widths.len();
+    let other = bench.chance.near(columns);
+    for room in [columns - 1, columns, columns + 1, other] {
+        bench.widths(&register.file, room)?;
+    }
+    Ok(())
 }
 
 fn writes(bench: &mut Bench, register: &Register) -> Verdict<()> {
@@ -193,6 +204,10 @@ fn damaged_files(bench: &mut Bench, register: &Register) -> Verdict<()> {
         let file = damaged(&mut bench.chance, &register.file);
         bench.open(&file)?;
         if bench.chance.one_in(3) {
+            let room = bench.chance.near(register.widths.len());
+            bench.widths(&file, room)?;
+        }
+        if bench.chance.one_in(3) {
             let text = Query::fit(&mut bench.chance, register).text();
             let room = bench.chance.near(register.result_bytes());
             bench.scan(&file, &text, room)?;
@@ -206,7 +221,7 @@ fn damaged_files(bench: &mut Bench, register: &Register) -> Verdict<()> {
     Ok(())
 }
 
-/// What is written opens to the same numbers, and every code of some column is looked up again.
+/// What is written opens to the same numbers and has the same widths, and every code of some column is looked up again.
 fn written_is_looked_up(bench: &mut Bench, register: &Register) -> Verdict<()> {
     let Register { rows, widths, codes, .. } = register;
     let (written, file) = bench.write(*rows, widths, codes, register.file.len())?;
@@ -215,6 +230,9 @@ fn written_is_looked_up(bench: &mut Bench, register: &Register) -> Verdict<()> {
     }
     if bench.open(&file)? != [0, 0, 0, *rows as u64, widths.len() as u64] {
         return Err("the law is broken: what is written opens".to_string());
+    }
+    if bench.widths(&file, widths.len())?.1 != *widths {
+        return Err("the law is broken: what is written has its widths".to_string());
     }
     let column = bench.chance.below(widths.len());
     let list: Vec<u32> = (0..*rows as u32).collect();

@@ -1,23 +1,16 @@
 //! How many calls were compared, by call and by the number of the refusal.
 
-#[derive(Clone, Copy, Debug)]
-pub enum Call {
-    Open,
-    Write,
-    Read,
-    Scan,
-    List,
-    Lookup,
-}
+use rutksmeln::Call;
 
 /// Each call with the numbers that it can answer; 0 is an accepted call.
-const ANSWERS: [(Call, &[usize]); 6] = [
+const ANSWERS: [(Call, &[usize]); 7] = [
     (Call::Open, &[0, 1, 2, 3, 4, 5, 6, 7]),
+    (Call::Widths, &[0, 1, 2, 3, 4, 5, 6, 7, 10]),
     (Call::Write, &[0, 3, 4, 6, 9, 8, 10]),
     (Call::Read, &[0, 17, 11]),
     (Call::Scan, &[0, 17, 11, 1, 2, 3, 4, 5, 6, 7, 14, 12, 13, 10]),
     (Call::List, &[0, 3, 16, 10]),
-    (Call::Lookup, &[0, 1, 2, 3, 4, 5, 6, 7, 12, 15, 10]),
+    (Call::LookUp, &[0, 1, 2, 3, 4, 5, 6, 7, 12, 15, 10]),
 ];
 
 /// The laws that are tried on what the library answers.
@@ -35,7 +28,7 @@ const LAWS: [Law; 6] = [Law::WrittenIsLookedUp, Law::Bounded, Law::Reordered, La
 
 #[derive(Default)]
 pub struct Tally {
-    answered: [[u64; 18]; 6],
+    answered: [[u64; 18]; 7],
     tried: [u64; 6],
 }
 
@@ -64,7 +57,7 @@ impl Tally {
         for (call, numbers) in ANSWERS {
             let of_call = &self.answered[call as usize];
             let refused: Vec<String> = numbers[1..].iter().map(|&number| format!("{number}: {}", of_call[number])).collect();
-            println!("{:<7} accepted {}, refused {}", format!("{call:?}").to_lowercase(), of_call[0], refused.join(", "));
+            println!("{call:<7} accepted {}, refused {}", of_call[0], refused.join(", "));
         }
         let laws: Vec<String> = LAWS.iter().map(|&law| format!("{law:?} {}", self.tried[law as usize])).collect();
         println!("laws    {}", laws.join(", "));

@@ -10,6 +10,14 @@ pub enum Fault {
     OffsetNotLookedAt = 1,
     /// Opening: the place of an unfit column is the next.
     PlaceOfTheNextColumn,
+    /// Widths: those of the last two columns are exchanged.
+    NeighboursExchanged,
+    /// Widths: room for all but the last is let through.
+    OneTooFewAccepted,
+    /// Widths: the need is 0.
+    NeedLeftOut,
+    /// Widths: what lies behind them is cleared.
+    RestCleared,
     /// Writing: the pads are ones.
     PadsOfOnes,
     /// Writing: a refused call has written what fits.
@@ -38,9 +46,13 @@ pub enum Fault {
 
 impl Fault {
     /// All of them.
-    pub const ALL: [Fault; 14] = [
+    pub const ALL: [Fault; 18] = [
         Fault::OffsetNotLookedAt,
         Fault::PlaceOfTheNextColumn,
+        Fault::NeighboursExchanged,
+        Fault::OneTooFewAccepted,
+        Fault::NeedLeftOut,
+        Fault::RestCleared,
         Fault::PadsOfOnes,
         Fault::ShortOutputWrittenInto,
         Fault::LeadingZero,

@@ -1,4 +1,4 @@
-//! The six calls a second time, to compare the proved library with. They share nothing with it but the rules: codes are joined row by
+//! The seven calls a second time, to compare the proved library with. They share nothing with it but the rules: codes are joined row by
 //! row, tests are applied to codes, and a slice counts by the words of its rule. Slow and plain on purpose.
 //!
 //! Every call answers the reply as the library's numbers are laid out, and writes into the buffers it is lent.
@@ -9,6 +9,7 @@ mod lookup;
 mod read;
 mod register;
 mod scan;
+mod widths;
 mod write;
 
 pub use fault::{plant, Fault};
@@ -17,6 +18,7 @@ pub use lookup::look_up;
 pub use read::read;
 pub use register::open;
 pub use scan::{counted_bytes, scan};
+pub use widths::widths;
 pub use write::write;
 
 /// A refusal: number, place, need.

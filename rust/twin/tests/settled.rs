@@ -40,6 +40,19 @@ fn two_rows_have_one_file() {
 }
 
 #[test]
+fn widths_stand_in_the_directory() {
+    let mut out = [77; 3];
+    assert_eq!(twin::widths(&TWO_ROWS, &mut out), [0, 0, 0, 1]);
+    assert_eq!(out, [11, 77, 77]);
+    let file = written(10, &[11, 3], &TEN_ROWS);
+    assert_eq!(twin::widths(&file, &mut out[..1]), [10, 0, 2, 0]);
+    assert_eq!(twin::widths(&TWO_ROWS[..27], &mut out), [1, 0, 0, 0]);
+    assert_eq!(out, [11, 77, 77]);
+    assert_eq!(twin::widths(&file, &mut out[..2]), [0, 0, 0, 2]);
+    assert_eq!(out, [11, 3, 77]);
+}
+
+#[test]
 fn bytes_are_unsigned_and_literals_below_two_to_the_width() {
     let file = written(1, &[8], &[128]);
     let asked = |text: &str| twin::scan(&file, text.as_bytes(), &mut [0]);
@@ -72,6 +85,7 @@ fn limits_are_accepted_and_one_more_is_not() {
     assert_eq!(twin::list(1_048_576, &[0; 131_072], &mut []), [0; 4]);
     assert_eq!(twin::write(0, &[32], &[], &mut [0; 24]), [0, 0, 0, 24]);
     assert_eq!(twin::write(0, &[32, 33], &[], &mut []), [6, 1, 0, 0]);
+    assert_eq!(twin::widths(&written(0, &[32; 32], &[]), &mut [0; 31]), [10, 0, 32, 0]);
     let tests = |count| ["segment 8\n", &"0 < 1\n".repeat(count)].concat();
     assert_eq!(twin::read(tests(16).as_bytes())[..5], [0, 0, 0, 8, 16]);
     assert_eq!(twin::read(tests(17).as_bytes()), {
