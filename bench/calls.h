@@ -7,6 +7,7 @@
 enum { MOST_REPLY = BSL_READ_REPLY };
 
 typedef void open_call(const uint8_t *file, size_t len, uint64_t *reply);
+typedef void widths_call(const uint8_t *file, size_t len, uint8_t *out, size_t nout, uint64_t *reply);
 typedef void write_call(size_t rows, const uint8_t *widths, size_t columns, const uint64_t *codes, size_t ncodes, uint8_t *out,
                         size_t nout, uint64_t *reply);
 typedef void read_call(const uint8_t *text, size_t len, uint64_t *reply);
@@ -17,6 +18,7 @@ typedef void lookup_call(const uint8_t *file, size_t len, size_t column, const u
                          size_t nout, uint64_t *reply);
 
 extern open_call c_open;
+extern widths_call c_widths;
 extern write_call c_write;
 extern read_call c_read;
 extern scan_call c_scan;

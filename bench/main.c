@@ -156,6 +156,8 @@ static void time_small(void) {
     print_head("ns a call", pair_columns, 3);
     time_sides("open", open_side, &parts, 2, 0, ns);
     print_pair("open, 32 columns", ns, 1);
+    time_sides("widths", widths_side, &parts, 2, MOST_WIDTHS, ns);
+    print_pair("widths, 32 columns", ns, 1);
     struct scan_input input = ask(&parts, 64, four_less);
     time_sides("read", read_side, input.text, 2, 0, ns);
     print_pair("read, four tests", ns, 1);

@@ -7,6 +7,11 @@ void open_side(const void *input, int side, struct answer *answer) {
     (side ? c_open : bsl_open)(parts->file, parts->len, answer->reply);
 }
 
+void widths_side(const void *input, int side, struct answer *answer) {
+    const struct register_input *parts = input;
+    (side ? c_widths : bsl_widths)(parts->file, parts->len, answer->out, parts->columns, answer->reply);
+}
+
 void write_side(const void *input, int side, struct answer *answer) {
     const struct register_input *parts = input;
     (side ? c_write : bsl_write)(parts->rows, parts->widths, parts->columns, parts->codes, parts->ncodes, answer->out, parts->len,

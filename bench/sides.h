@@ -23,6 +23,7 @@ struct lookup_input {
 };
 
 side_call open_side;    // of a struct register_input; no output
+side_call widths_side;  // of a struct register_input; output: the widths
 side_call write_side;   // of a struct register_input; output: the file
 side_call read_side;    // of a text that ends with a 0; no output
 side_call scan_side;    // of a struct scan_input; output: a bit a row; twins 2 and 3: by segment, without vectors
