@@ -10,8 +10,8 @@
 // LINKING
 // The calls are in target/staticlib/libexports.a, which `rt staticlib exports` writes:
 //     gcc -Iinclude program.c target/staticlib/libexports.a
-// It is made for x86-64 Linux, with the calls of System V, and has no instruction beyond plain x86-64. It needs memcpy and memset, and
-// nothing else. It is position independent, so that it may also become a shared object:
+// It is made for Linux on plain x86-64, with the calling convention of System V. It needs memcpy and memset, and nothing else. It is
+// position independent, so that it may also become a shared object:
 //     gcc -shared -o librutksmeln.so -Wl,--whole-archive target/staticlib/libexports.a -Wl,--no-whole-archive
 //
 // WHAT EVERY CALL KEEPS TO

@@ -7,6 +7,7 @@ use crate::Reason;
 
 /// The calls of the library.
 #[derive(Clone, Copy, Debug, PartialEq, Eq, Hash)]
+#[non_exhaustive]
 pub enum Call {
     /// [`open`](crate::open)
     Open,
