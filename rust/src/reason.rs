@@ -8,9 +8,9 @@
 /// | 2 | `OtherVersion` | the file's version is not 1 | have it written in version 1 |
 /// | 3 | `TooManyRows` | more than 1,048,576 rows | divide the register |
 /// | 4 | `UnfitColumnCount` | no columns, or more than 32 | divide the columns |
-/// | 5 | `DirectoryMisplaced` | the directory is not where the file's length puts it | bytes are missing or too many: fetch the file again |
+/// | 5 | `DirectoryMisplaced` | the directory is not where the file's length puts it | bytes are missing or too many: fetch it again |
 /// | 6 | `UnfitColumn` | a width is 0 or over 32, or a column's entry is unfit; place: the column | mend what writes that column |
-/// | 7 | `BodyMisfit` | the slices do not fill the file up to its directory | bytes are missing or too many: fetch the file again |
+/// | 7 | `BodyMisfit` | the slices do not fill the file up to its directory | bytes are missing or too many: fetch it again |
 /// | 8 | `CodeTooLarge` | a code does not fit its column; place: its index in the codes | widen the column, or mend the code |
 /// | 9 | `UnfitCodeCount` | the codes are not rows x columns | hand over a code for every cell |
 /// | 10 | `OutputTooShort` | an output is too short; need: what it must hold | lend that much |
@@ -20,7 +20,7 @@
 /// | 14 | `UnfitSegmentSize` | the segment size is not 8, 16, 32 or 64 | choose one of them |
 /// | 15 | `NoSuchRow` | a row number is not below the rows; place: its index in the list | count rows from 0 |
 /// | 16 | `UnfitBits` | the bits are not those of so many rows | hand over the bytes that a scan of this register left |
-/// | 17 | `MalformedText` | the text is malformed; place: the line, from 0 | mend that line; [`read`](crate::read) says by what one is malformed |
+/// | 17 | `MalformedText` | the text is malformed; place: the line, from 0 | mend it; [`read`](crate::read) says what to look for |
 #[derive(Clone, Copy, Debug, PartialEq, Eq, Hash)]
 #[non_exhaustive]
 pub enum Reason {

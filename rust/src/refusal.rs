@@ -72,14 +72,18 @@ impl Refusal {
         let Refusal { call, number, place, need } = *self;
         let Some(reason) = self.reason() else { return format!("Number {number} is none of this library's.") };
         match reason {
-            Reason::NoRegister => "The file is too short or does not end in BSL1: it is no register, or was cut off. Fetch it again.".into(),
+            Reason::NoRegister => {
+                "The file is too short or does not end in BSL1: it is no register, or was cut off. Fetch it again.".into()
+            }
             Reason::OtherVersion => "The register is of another version: have it written in version 1.".into(),
             Reason::TooManyRows => "There are more than 1,048,576 rows: split the register.".into(),
             Reason::UnfitColumnCount => "There is no column, or there are more than 32: split the columns.".into(),
             Reason::DirectoryMisplaced => {
                 "The directory is not where the file's length puts it: bytes were lost or added. Fetch the file again.".into()
             }
-            Reason::UnfitColumn if call == Call::Write => format!("Column {place}, from 0, has a width outside 1 to 32: correct the width."),
+            Reason::UnfitColumn if call == Call::Write => {
+                format!("Column {place}, from 0, has a width outside 1 to 32: correct the width.")
+            }
             Reason::UnfitColumn => {
                 format!("Column {place}, from 0, has a width outside 1 to 32, or an unfit entry: correct the program that writes it.")
             }
@@ -90,9 +94,7 @@ impl Refusal {
             Reason::UnfitCodeCount => "The codes are not rows times columns: hand over one for every cell.".into(),
             Reason::OutputTooShort => format!("The output is too short: lend {need} elements."),
             Reason::TooManyTests => "There are more than 16 tests: ask in two queries and take the rows that both find.".into(),
-            Reason::NoSuchColumn if call == Call::LookUp => {
-                "The register does not have this column: columns are numbered from 0.".into()
-            }
+            Reason::NoSuchColumn if call == Call::LookUp => "The register does not have this column: columns are numbered from 0.".into(),
             Reason::NoSuchColumn => {
                 format!("Test {place}, from 0, is of a column that the register does not have: columns are numbered from 0.")
             }
@@ -105,8 +107,8 @@ impl Refusal {
                 "The bits do not belong to so many rows: hand over the bytes of a scan, and the rows of its register.".into()
             }
             Reason::MalformedText => format!(
-                "Line {place} of the query, from 0, is malformed: look for CR LF at its end, a byte order mark, a missing last line feed, an \
-                 empty line, a second space, leading zeros, or a number of 2^32 or more."
+                "Line {place} of the query, from 0, is malformed: look for CR LF at its end, a byte order mark, a missing last line \
+                 feed, an empty line, a second space, leading zeros, or a number of 2^32 or more."
             ),
         }
     }
