@@ -20,7 +20,7 @@ use Rattle.register.specs.declared.Opened.the-variants.{Register, Refused as No
 use Rattle.register.specs.File.{rowsIn, columnsIn}
 use Rattle.register.specs.Answers.{refusal}
 use Rattle.register.specs.Opening.{openedOf}
-use Rattle.register.proofs.Fit.{opened-is-fit}
+use Rattle.register.proofs.Fit.{rows-as-opened, columns-as-opened}
 use Rattle.register.proofs.PassedOn.{refusal-passed-on, own-lines-next}
 use Rattle.lookup.specs.declared.LookedUp.{LookedUp}
 use Rattle.lookup.specs.declared.LookedUp.the-variants.{Codes, Refused}
@@ -55,10 +55,10 @@ module _ (file : List ℕ) (column : ℕ) (list out : List ℕ) where
 
     -- the shape is the file's
     same-columns : shape .columns ≡ columnsIn file
-    same-columns = ap (λ (s : Shape). s .columns) (opened-is-fit file shape opened .1)
+    same-columns = columns-as-opened file shape opened
 
     same-rows : shape .rows ≡ rowsIn file
-    same-rows = ap (λ (s : Shape). s .rows) (opened-is-fit file shape opened .1)
+    same-rows = rows-as-opened file shape opened
 
     pub no-column : shape .columns ≤ column → {r : LookedUp} → r ≡ refusedWith 12 0 0 → Answered r out
     unfolding ownLines

@@ -4,7 +4,7 @@
 --   code-gathered   the row's code is its gathered bytes, joined
 use Prim.Native.Nat.{ℕ, _≤_, _<_}
 use native.Mathlib.Omega.{arith}
-use mathlib.Core.Path.{_≡_, ap}
+use mathlib.Core.Path.{_≡_}
 use mathlib.Core.List.{List}
 use Rattle.codes.specs.Width.{widest}
 use Rattle.codes.specs.Bytes.{joined}
@@ -13,7 +13,7 @@ use Rattle.register.specs.declared.Opened.the-variants.{Register}
 use Rattle.register.specs.File.{rowsIn, columnsIn, widthIn, offsetIn}
 use Rattle.register.specs.Cells.{byteAt, bytesAt, codeAt}
 use Rattle.register.specs.Opening.{openedOf}
-use Rattle.register.proofs.Fit.{opened-is-fit}
+use Rattle.register.proofs.Fit.{opened-is-fit, rows-as-opened, columns-as-opened}
 use Rattle.register.proofs.Directory.{fit-column}
 use Rattle.register.proofs.Body.{in-the-file}
 use Rattle.lookup.specs.Steps.{RowWithin, gathered}
@@ -21,10 +21,10 @@ use Rattle.lookup.specs.Steps.{RowWithin, gathered}
 module _ (file : List ℕ) (shape : Shape) (opened : openedOf file ≡ Register shape) (column : ℕ) (there : column < shape .columns) where
   -- the shape is the file's
   same-rows : shape .rows ≡ rowsIn file
-  same-rows = ap (λ (s : Shape). s .rows) (opened-is-fit file shape opened .1)
+  same-rows = rows-as-opened file shape opened
 
   column-there : column < columnsIn file
-  column-there = omega (arith, ap (λ (s : Shape). s .columns) (opened-is-fit file shape opened .1))
+  column-there = omega (arith, columns-as-opened file shape opened)
 
   pub some-width : 0 < widthIn file column
   some-width = fit-column file column (opened-is-fit file shape opened .0 .each-fit column column-there) .some

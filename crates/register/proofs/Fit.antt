@@ -2,10 +2,11 @@
 --   Fit                 the facts, in plain numbers
 --   opened-passes       where a file opens, no line of the table answers
 --   opened-is-fit       a file that opens has them
+--   rows-as-opened, columns-as-opened    the shape that opening tells is the file's
 --   fit-is-opened       a file that has them opens
 use Prim.Native.Nat.{ℕ, _+_, _*_, _≤_, _<_}
 use native.Mathlib.Omega.{arith}
-use mathlib.Core.Path.{_≡_, refl, sym}
+use mathlib.Core.Path.{_≡_, refl, sym, ap}
 use mathlib.Core.List.{List}
 use mathlib.Core.Bool.{false, not}
 use mathlib.Core.Option.{Option, none, some}
@@ -70,6 +71,12 @@ opened-is-fit file shape e =
       },
       sym (answered .1),
     )
+
+pub rows-as-opened : (file : List ℕ) (shape : Shape) → openedOf file ≡ Register shape → shape .rows ≡ rowsIn file
+rows-as-opened file shape opened = ap (λ (s : Shape). s .rows) (opened-is-fit file shape opened .1)
+
+pub columns-as-opened : (file : List ℕ) (shape : Shape) → openedOf file ≡ Register shape → shape .columns ≡ columnsIn file
+columns-as-opened file shape opened = ap (λ (s : Shape). s .columns) (opened-is-fit file shape opened .1)
 
 pub fit-is-opened : (file : List ℕ) → Fit file → openedOf file ≡ Register (shapeIn file)
 fit-is-opened file fit =

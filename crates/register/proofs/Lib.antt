@@ -1,6 +1,7 @@
--- The laws of a register's file and of opening it.
+-- The laws of a register's file, of opening it and of asking for its widths.
 pub mod Opening
 pub mod Fit
 pub mod PassedOn
+pub mod Measuring
 pub mod Directory
 pub mod Body

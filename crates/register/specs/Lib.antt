@@ -1,4 +1,4 @@
--- What a register's file is, and what opening it answers.
+-- What a register's file is, what opening it answers, and what asking for its widths does.
 pub mod Limits
 pub mod Layout
 pub mod File
@@ -6,3 +6,4 @@ pub mod Cells
 pub mod Trailer
 pub mod Answers
 pub mod Opening
+pub mod Widths

@@ -11,6 +11,8 @@ ghost use Rattle.register.specs.File.{rowsIn, directoryIn, entryIn, widt
 ghost use Rattle.register.specs.Trailer.{TrailerRead};
 ghost use Rattle.register.specs.Answers.{refusedWith, refusalOf, shownOf};
 ghost use Rattle.register.specs.Opening.{openedOf, shownFor};
+ghost use Rattle.register.specs.Widths as measuring;
+ghost use Rattle.basis.specs.Buffers.{laid};
 
 // Rows and columns that a register may have.
 pub const MOST_ROWS: usize = 1048576;
@@ -36,6 +38,13 @@ pub struct Shape {
 // The answer to opening a file.
 pub enum Opened {
     Register(Shape),
+    Refused(Refusal),
+}
+
+// The answer to asking for the widths: how many columns there are, each with its width in the
+// output, or the refusal.
+pub enum Measured {
+    Columns(usize),
     Refused(Refusal),
 }
 
@@ -94,6 +103,40 @@ pub fn open(file: &[u8]) -> Opened
         rows: trailer.rows,
         columns: trailer.columns,
     })
+}
+
+// Writes the width of every column to the front of `out`. Refused, it changes nothing.
+pub fn widths(file: &[u8], out: &mut [u8]) -> Measured
+    ensures answer { λ r. ⌜ r ≡ measuring.measuredOf (now (file .entry)) (length (now (out .entry))) ⌝ }
+    ensures shown { λ r. ⌜ measuring.shownOf r ≡ measuring.shownFor (now (file .entry)) (length (now (out .entry))) ⌝ }
+    ensures left { λ r. ⌜ now (out .exit) ≡ measuring.leftIn (now (file .entry)) (now (out .entry)) ⌝ }
+{
+    let opened = open(file);
+    let Opened::Register(shape) = opened else {
+        return Measured::Refused(refusal_of(opened));
+    };
+    let columns = shape.columns;
+    if out.len() < columns {
+        return Measured::Refused(Refusal {
+            number: 10,
+            place: 0,
+            need: columns,
+        });
+    }
+    write_widths(file, shape, out);
+    Measured::Columns(columns)
+}
+
+// Writes the width of every column of an opened file to the front, in their order.
+fn write_widths(file: &[u8], shape: Shape, out: &mut [u8])
+    requires { ⌜ (openedOf (now file) ≡ Opened.Register shape) × (shape .columns ≤ length (now out)) ⌝ }
+    ensures { λ _. ⌜ now (out .exit) ≡ laid (now (out .entry)) 0 (measuring.widthsOf (now (file .entry))) ⌝ }
+{
+    let mut column: usize = 0;
+    while column < shape.columns {
+        out[column] = width_at(file, shape, column);
+        column = column + 1;
+    }
 }
 
 // The refusal of a file that did not open, for a caller to pass on. Of one that did, all 0.

@@ -1,15 +1,15 @@
 -- `register::entry_of` meets its contract: in a file that opened, the directory ends 16 bytes before the end. Assumes nothing.
 use Prim.Native.Nat.{ℕ, _+_, _-_, _*_, _≤_}
 use native.Mathlib.Omega.{arith}
-use mathlib.Core.Path.{_≡_, ap}
+use mathlib.Core.Path.{_≡_}
 use mathlib.Core.List.{List}
 use lib.ListN.{length}
 use borrow.Author.Needs.{needs}
 use Rattle.register.specs.declared.Shape.{Shape}
 use Rattle.register.specs.declared.Opened.the-variants.{Register}
-use Rattle.register.specs.File.{columnsIn, directoryIn}
+use Rattle.register.specs.File.{directoryIn}
 use Rattle.register.specs.Opening.{openedOf}
-use Rattle.register.proofs.Fit.{opened-is-fit}
+use Rattle.register.proofs.Fit.{opened-is-fit, columns-as-opened}
 use Rattle.register.proofs.Directory.{entry-cut}
 use Rattle.register.proofs.entry_of.Statement.{statement}
 use Rattle.register.proofs.entry_of.Tie as tie
@@ -18,9 +18,8 @@ use Rattle.register.proofs.entry_of.Tie as tie
 room : (file : List ℕ) (shape : Shape) → openedOf file ≡ Register shape →
     (shape .columns ≤ 32) × (directoryIn file + 8 * shape .columns + 16 ≡ length file)
 room file shape opened =
-    let fit = opened-is-fit file shape opened in
-    let same : shape .columns ≡ columnsIn file = ap (λ (s : Shape). s .columns) (fit .1) in
-    rw same (fit .0 .few-columns, fit .0 .placed)
+    let fit = opened-is-fit file shape opened .0 in
+    rw (columns-as-opened file shape opened) (fit .few-columns, fit .placed)
 
 sub-from : tie.Need-sub-from
 sub-from c = let known = room _ _ (c .pre .0) in omega arith

@@ -1,0 +1,71 @@
+-- `register::write_widths` meets its contract: the widths of the columns passed stand at the front. Assumes nothing.
+use Prim.Native.Nat.{ℕ, _-_, _≤_}
+use native.Mathlib.Omega.{arith}
+use native.Mathlib.Nat.{zero-add}
+use mathlib.Core.Path.{_≡_, ap, _∙_}
+use mathlib.Core.List.{map}
+use borrow.Author.Needs.{needs}
+use Rattle.basis.specs.Lists.{below}
+use Rattle.basis.specs.Buffers.{laid}
+use Rattle.basis.proofs.Buffers.{Filled, filled-nothing, filled-element}
+use Rattle.register.specs.File.{columnsIn, widthIn}
+use Rattle.register.specs.Widths.{widthsOf}
+use Rattle.register.proofs.Fit.{columns-as-opened}
+use Rattle.register.proofs.write_widths.Statement.{statement}
+use Rattle.register.proofs.write_widths.Tie as tie
+
+abbrev Inv-loop : tie.InvT-loop
+Inv-loop file shape out₀ column₀ out column =
+    (column ≤ shape .columns) × Filled out₀ 0 (map (widthIn file) (below column)) out
+
+abbrev μ-loop : tie.MeasureT-loop
+μ-loop file shape out₀ column₀ out column = shape .columns - column
+
+loop-holds : tie.Need-loop-holds Inv-loop μ-loop
+loop-holds c = (omega arith, filled-nothing _ _)
+
+width-at-requires : tie.Need-width-at-requires Inv-loop μ-loop
+width-at-requires c κs = search needs
+
+slice-write-out : tie.Need-slice-write-out Inv-loop μ-loop
+slice-write-out c = omega (arith, c .before .before .before .loop .inv .1 .same-length)
+
+add-column : tie.Need-add-column Inv-loop μ-loop
+add-column c = omega arith
+
+loop-less : tie.Need-loop-less Inv-loop μ-loop
+loop-less c = omega arith
+
+loop-again : tie.Need-loop-again Inv-loop μ-loop
+loop-again c =
+    let turn = c .before .before .before .loop in
+    let a = c .before .before .before .before .before .before .args in
+    let stored = filled-element (a .out .now) 0 (widthIn (a .file .now)) (turn .column) (turn .inv .1) (omega arith) in
+    (omega arith, rw (c .width-at .ensures) (rw zero-add at stored))
+
+same-length : tie.Need-same-length Inv-loop μ-loop
+same-length c = c .before .before .loop .inv .1 .same-length
+
+returns : tie.Need-returns Inv-loop μ-loop
+unfolding widthsOf
+returns c =
+    let turn = c .before .before .loop in
+    let start = c .before .before .before .before .before in
+    let a = start .args in
+    let all : turn .column ≡ columnsIn (a .file .now) = omega (arith, columns-as-opened _ _ (start .pre .0)) in
+    turn .inv .1 .filled ∙ ap (λ (n : ℕ). laid (a .out .now) 0 (map (widthIn (a .file .now)) (below n))) all
+
+pub write-widths-spec : {M : Type 1} → statement M
+write-widths-spec =
+    tie.close
+    (tie.spec
+    Inv-loop
+    μ-loop
+    loop-holds
+    width-at-requires
+    slice-write-out
+    add-column
+    loop-less
+    loop-again
+    same-length
+    returns)
