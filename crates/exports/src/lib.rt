@@ -5,6 +5,7 @@ mod replies;
 
 use replies::listed_reply;
 use replies::looked_up_reply;
+use replies::measured_reply;
 use replies::opened_reply;
 use replies::read_reply;
 use replies::scanned_reply;
@@ -13,6 +14,7 @@ use scan::Scanned;
 ghost use mathlib.Core.Path.{_≡_};
 ghost use lib.ListN.{length};
 ghost use Rattle.register.specs.Opening as opening;
+ghost use Rattle.register.specs.Widths as measuring;
 ghost use Rattle.writer.specs.Writing as writing;
 ghost use Rattle.lookup.specs.LookingUp as looking;
 ghost use Rattle.rows.specs.RowList as listing;
@@ -25,6 +27,16 @@ pub extern "C" fn bsl_open(file: &[u8], reply: &mut [u64; 5])
 {
     let opened = register::open(file);
     *reply = opened_reply(opened);
+}
+
+// Answers the width of every column. Value: how many columns.
+#[no_mangle]
+pub extern "C" fn bsl_widths(file: &[u8], out: &mut [u8], reply: &mut [u64; 4])
+    ensures reply { λ _. ⌜ now (reply .exit) ≡ measuring.shownFor (now (file .entry)) (length (now (out .entry))) ⌝ }
+    ensures left { λ _. ⌜ now (out .exit) ≡ measuring.leftIn (now (file .entry)) (now (out .entry)) ⌝ }
+{
+    let measured = register::widths(file, out);
+    *reply = measured_reply(measured);
 }
 
 // Writes a register's file. Value: its bytes.

@@ -2,6 +2,7 @@
 use lookup::LookedUp;
 use query::Comparison;
 use query::Test;
+use register::Measured;
 use register::Opened;
 use register::Refusal;
 use rows::Listed;
@@ -10,6 +11,7 @@ use writer::Written;
 ghost use mathlib.Core.Path.{_≡_};
 ghost use mathlib.Core.List.{[], _∷_};
 ghost use Rattle.register.specs.Answers as register;
+ghost use Rattle.register.specs.Widths as measuring;
 ghost use Rattle.writer.specs.Answers as writer;
 ghost use Rattle.lookup.specs.Answers as lookup;
 ghost use Rattle.rows.specs.Answers as rows;
@@ -27,6 +29,15 @@ pub fn opened_reply(opened: Opened) -> [u64; 5]
             0,
             0,
         ],
+    }
+}
+
+pub fn measured_reply(measured: Measured) -> [u64; 4]
+    ensures { λ r. ⌜ r ≡ measuring.shownOf measured ⌝ }
+{
+    match measured {
+        Measured::Columns(columns) => [0, 0, 0, columns as u64],
+        Measured::Refused(refusal) => refused_reply(refusal),
     }
 }
 
