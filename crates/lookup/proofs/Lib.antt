@@ -1,3 +1,4 @@
 -- The laws of looking up.
 pub mod Rows
 pub mod LookingUp
+pub mod SingleReply

@@ -11,3 +11,4 @@ pub mod Outcomes
 pub mod Rising
 pub mod ListedRows
 pub mod ScannedRows
+pub mod SingleReply

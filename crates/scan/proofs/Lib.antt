@@ -14,3 +14,4 @@ pub mod AloneTest
 pub mod AgreeingFiles
 pub mod CountBounds
 pub mod FoundIsMeets
+pub mod SingleReply

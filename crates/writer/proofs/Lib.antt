@@ -2,3 +2,4 @@
 pub mod Lengths
 pub mod Writing
 pub mod Fit
+pub mod SingleReply

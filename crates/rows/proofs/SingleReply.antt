@@ -1,0 +1,13 @@
+-- The promise of listing rows admits one reply and one content of the output. It is the call's own promise, every `ensures` of its
+-- source as the check reads it: of the lifetimes κs, of what is lent, of the reply, and of what was lent as it stands at exit. Assumes nothing.
+--   one-list    the reply, and what the output, the last that is lent, holds at exit
+use mathlib.Core.Path.{_≡_}
+use denote.Ref.{now}
+use Rattle.basis.proofs.SingleReply.{single-reply}
+use Rattle.rows.specs.declared.Listed.{Listed}
+use Rattle.rows.proofs.list.Reads.{Post as Lists}
+
+pub one-list : (κs : _) (lent : _) (reply other : Listed) (exit exit′ : _) →
+    Lists κs lent reply exit → Lists κs lent other exit′ → (reply ≡ other) × (now (exit .1 .1 .0) ≡ now (exit′ .1 .1 .0))
+one-list κs lent reply other exit exit′ first second =
+    (single-reply (first .0) (second .0), single-reply (first .1 .1) (second .1 .1))
