@@ -205,6 +205,7 @@ static void time_growth(void) {
 }
 
 static void time_round(void) {
+    fprintf(stderr, "round %d of %d\n", ROUNDS - rounds_left + 1, ROUNDS);
     same_inputs();
     time_scan(), time_lookup(), time_list(), time_write(), time_small(), time_growth();
     next_round();
