@@ -1,5 +1,7 @@
 """The cases of listing_cases: a file, a standard input, and what the program must print of them where a case states it."""
 import random
+import tempfile
+from contextlib import contextmanager
 from pathlib import Path
 from typing import NamedTuple, Optional, Union
 
@@ -28,6 +30,20 @@ class Case(NamedTuple):
     file: Union[bytes, str]
     text: Union[bytes, str, Slow, Path]
     printed: Optional[bytes] = None
+
+
+@contextmanager
+def laid(file, text=None):
+    """A folder with this file as its register, and this text, where there is one, in the file `query`."""
+    with tempfile.TemporaryDirectory() as folder:
+        path = Path(folder) / 'parts.bsl'
+        if file == FOLDER:
+            path.mkdir()
+        elif file != MISSING:
+            path.write_bytes(file)
+        if text is not None:
+            (Path(folder) / 'query').write_bytes(text)
+        yield folder
 
 
 def refused(name, file, text, number, place=0):
