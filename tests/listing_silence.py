@@ -1,5 +1,5 @@
-"""Cases of listing_cases on a standard input that stays silent: what the program answers before it reads a query. It refuses a register that
-it cannot take, and answers any argument with its usage, at once."""
+"""Cases of listing_cases on a standard input that stays silent: what the program answers before it reads a query. It refuses a register
+that it cannot take, and answers any argument with its usage, at once."""
 import os
 import subprocess
 from contextlib import contextmanager

@@ -8,7 +8,7 @@
 
 say() { printf '%s\n' "$*" >&2; }
 misused() { say "$@"; exit 2; }
-need_rt() { command -v rt > /dev/null || misused 'rt is missing: it is the command of the Rattle kit, which proves and builds everything here'; }
+need_rt() { command -v rt > /dev/null || misused 'rt is missing: it is the Rattle kit, which proves and builds everything here'; }
 
 told() {
     local words status=0
