@@ -21,7 +21,7 @@ use Rattle.text.specs.declared.Number.{Number}
 use Rattle.text.specs.declared.Number.the-variants.{Value, NoNumber}
 use Rattle.text.specs.Decimals.{digit, decimal, decimalLimit}
 use Rattle.text.specs.Steps.{Ends, NumberAt, DigitsAt}
-use Rattle.text.proofs.Words.{first-of-word}
+use Rattle.text.proofs.Words.{byte-of-word}
 use Rattle.text.proofs.Decimals.{
   IsDigit,
   decimal-of-digit,
@@ -130,7 +130,7 @@ module _ (text : List ℕ) (at end : ℕ) where
   no-digit none number rest small e =
       none
       (subst IsDigit (sym (begins-with number rest small e))
-      (first-of-word IsDigit (decimal number) (decimal-digits number (omega arith)) (decimal-some number (omega arith))))
+      (byte-of-word IsDigit (decimal number) (decimal-digits number (omega arith)) 0 (decimal-some number (omega arith))))
 
   module _ (begun : ℕ) (some : 0 < begun) (small : begun < 10) (is : getD text at 0 ≡ digit begun) where
     begun-here : decimal begun ++ drop (at + 1) text ≡ drop at text

@@ -3,15 +3,20 @@
 --   byte-then        from a place on, its byte and then the rest
 --   byte-further     the bytes from a place on, by their distance
 --   front-by-bytes   a text that has the bytes of a word, none of them 0, begins with it
+--   by-byte          what is chosen by whether a byte is another: what holds of either holds of it
 use Prim.Native.Nat.{ℕ, suc, _+_, _<_, _≤_}
 use native.Mathlib.Omega.{arith}
 use native.Mathlib.Numerals.{add-one}
-use mathlib.Core.Path.{_≡_, refl, sym, ap, ap₂, _∙_}
+use mathlib.Core.Path.{_≡_, refl, sym, ap, ap₂, subst, _∙_}
 use mathlib.Core.Logic.{⊎-elim}
+use mathlib.Core.Bool.{true, false, cond}
 use mathlib.Core.List.{List, [], _∷_, _++_}
+use lib.Dec.{eqb}
 use lib.ListN.{length, getD, drop, List·getD-eq-default}
 use lib.Seq.{drop-cons, getD-drop}
+use borrow.Author.Tests.{eqb-true, eqb-false}
 use Rattle.basis.proofs.Runs.{within-or-past}
+use Rattle.basis.proofs.Truth.{either, hit, missed}
 use Rattle.text.proofs.Words.{AllOf}
 
 module _ (text : List ℕ) where
@@ -37,3 +42,11 @@ front-by-bytes (b ∷ word) [] some each = absurd (omega (arith, some .0, each 0
 front-by-bytes (b ∷ word) (x ∷ text) some each =
     let rest = front-by-bytes word text (some .1) (λ k within. each (suc k) (omega arith)) in
     (omega arith, ap₂ _∷_ (each 0 (omega arith)) (rest .1))
+
+pub by-byte : {A : Type 0} (Holds : A → Type 0) (byte other : ℕ) {there missing chosen : A} →
+    chosen ≡ cond (eqb byte other) there missing → (byte ≡ other → Holds there) → ((byte ≡ other → ⊥) → Holds missing) → Holds chosen
+by-byte Holds byte other said same differs =
+    ⊎-elim
+    (λ (is : eqb byte other ≡ true). subst Holds (sym (said ∙ hit _ _ _ is)) (same (eqb-true byte other is)))
+    (λ (is : eqb byte other ≡ false). subst Holds (sym (said ∙ missed _ _ _ is)) (differs (eqb-false byte other is)))
+    (either (eqb byte other))

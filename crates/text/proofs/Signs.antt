@@ -6,21 +6,16 @@
 --   sign-if-spaced   a sign whose bytes stand there, if a space follows
 use Prim.Native.Nat.{ℕ, _+_, _<_}
 use native.Mathlib.Omega.{arith}
-use mathlib.Core.Path.{_≡_, refl, sym, ap, subst, _∙_}
-use mathlib.Core.Logic.{⊎-elim}
-use mathlib.Core.Bool.{true, false}
+use mathlib.Core.Path.{_≡_, refl, ap, _∙_}
 use mathlib.Core.List.{List, [], _∷_, _++_}
-use lib.Dec.{eqb}
 use lib.ListN.{getD}
-use borrow.Author.Tests.{eqb-true, eqb-false}
-use Rattle.basis.proofs.Truth.{either, hit, missed}
 use Rattle.query.specs.declared.Comparison.{Comparison}
 use Rattle.query.specs.declared.Comparison.the-variants.{Less, AtMost, More, AtLeast, Equal, Differs}
 use Rattle.text.specs.declared.Sign.{Sign}
 use Rattle.text.specs.declared.Sign.the-variants.{Compares, NoSign}
 use Rattle.text.specs.Lines.{space, signOf}
 use Rattle.text.specs.Steps.{SignAt, spacedAt}
-use Rattle.text.proofs.Places.{byte-within, byte-then, byte-further}
+use Rattle.text.proofs.Places.{byte-within, byte-then, byte-further, by-byte}
 
 pub record NotSigned (first second third : ℕ) : Type 0 where
   pub less : first ≡ 60 → second ≡ 32 → ⊥
@@ -78,12 +73,4 @@ module _ (text : List ℕ) (at : ℕ) where
   pub sign-if-spaced : (next : ℕ) (comparison : Comparison) {sign : Sign} → sign ≡ spacedAt text next comparison →
       (getD text next 0 ≡ space → SignAt text at (Compares comparison (next + 1))) →
       ((getD text next 0 ≡ space → ⊥) → SignAt text at NoSign) → SignAt text at sign
-  sign-if-spaced next comparison said there missing =
-      let byte = getD text next 0 in
-      let spaced = Compares comparison (next + 1) in
-      ⊎-elim
-      (λ (here : eqb byte space ≡ true).
-      subst (SignAt text at) (sym (said ∙ hit (eqb byte space) spaced NoSign here)) (there (eqb-true byte space here)))
-      (λ (other : eqb byte space ≡ false).
-      subst (SignAt text at) (sym (said ∙ missed (eqb byte space) spaced NoSign other)) (missing (eqb-false byte space other)))
-      (either (eqb byte space))
+  sign-if-spaced next comparison said there missing = by-byte (SignAt text at) (getD text next 0) space said there missing

@@ -2,10 +2,10 @@
 -- one way. Assumes nothing.
 --   AllOf           every byte of a word is of the kind
 --   joined-word     two words of a kind, joined, are one
---   first-of-word   a word that is not empty begins with a byte of the kind
+--   byte-of-word    each byte of a word is of the kind
 --   word-at-front   what begins with some bytes of the kind has a first word that begins with them
 --   same-word       two spellings of a text by its first word, the byte after it and the rest are the same
-use Prim.Native.Nat.{ℕ, _<_}
+use Prim.Native.Nat.{ℕ, zero, suc, _<_}
 use native.Mathlib.Omega.{arith}
 use mathlib.Core.Path.{_≡_, refl, sym, ap₂, subst}
 use mathlib.Core.List.{List, [], _∷_, _++_, head-eq-of-cons-eq, tail-eq-of-cons-eq}
@@ -20,9 +20,10 @@ module _ (Kind : ℕ → Type 0) where
   joined-word [] more w m = m
   joined-word (b ∷ word) more w m = (w .0, joined-word word more (w .1) m)
 
-  pub first-of-word : (word : List ℕ) → AllOf Kind word → 0 < length word → Kind (getD word 0 0)
-  first-of-word [] w some = absurd (omega arith)
-  first-of-word (b ∷ word) w some = w .0
+  pub byte-of-word : (word : List ℕ) → AllOf Kind word → (k : ℕ) → k < length word → Kind (getD word k 0)
+  byte-of-word [] w k within = absurd (omega arith)
+  byte-of-word (b ∷ word) w zero within = w .0
+  byte-of-word (b ∷ word) w (suc k) within = byte-of-word word (w .1) k (omega arith)
 
   pub word-at-front : (begun word : List ℕ) {end : ℕ} {left rest : List ℕ} → AllOf Kind begun → (Kind end → ⊥) →
       begun ++ left ≡ word ++ (end ∷ rest) →
