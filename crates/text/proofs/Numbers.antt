@@ -1,26 +1,25 @@
 -- What each byte of a decimal says of the number that is read. Assumes nothing.
---   end-low          the byte that must follow is no digit, nor 0
 --   Begun            some digits of a decimal that is not 0 have been read, up to a place
 --   nothing-further  none yet but those it began with
 --   further-number   a digit more, and the number that it makes, where it is below the limit
---   number-ends      the byte that must follow ends the number
 --   too-large        a number of 2^32 or more is none, however it goes on
---   other-byte       nor is one that another byte follows
---   text-ends        nor one at the end of the text
---   zero-read        0 and the byte that must follow
---   leading-zero     0 and another byte
---   no-digit         a byte that is no digit
+--   number-ends      a byte that is no digit ends the number, if it is the one that must follow
+--   text-ends        at the end of the text there is none
+--   leading-zero     nor where another byte than the one that must follow comes after a 0
+--   zero-ends        0, if the byte that must follow comes next
+--   no-digit         no number begins with a byte that is no digit
 --   digits-read      a digit from 1 to 9, and what it goes on with
 use Prim.Native.Nat.{ℕ, _+_, _-_, _*_, _<_, _≤_}
 use native.Mathlib.Omega.{arith}
 use mathlib.Core.Path.{_≡_, refl, sym, ap, ap₂, subst, _∙_}
-use mathlib.Core.Logic.{⊎-elim}
 use mathlib.Core.List.{List, [], _∷_, _++_, append-assoc}
 use lib.ListN.{length, getD, drop, length-append, drop-of-length-le, List·getD-append}
+use Rattle.text.specs.declared.After.{After}
+use Rattle.text.specs.declared.After.the-variants.{Space, LineFeed}
 use Rattle.text.specs.declared.Number.{Number}
 use Rattle.text.specs.declared.Number.the-variants.{Value, NoNumber}
 use Rattle.text.specs.Decimals.{digit, decimal, decimalLimit}
-use Rattle.text.specs.Steps.{Ends, NumberAt, DigitsAt}
+use Rattle.text.specs.Steps.{afterByte, endedBy, NumberAt, DigitsAt}
 use Rattle.text.proofs.Words.{byte-of-word}
 use Rattle.text.proofs.Decimals.{
   IsDigit,
@@ -32,10 +31,12 @@ use Rattle.text.proofs.Decimals.{
   same-decimal,
   begun-decimal,
 }
-use Rattle.text.proofs.Places.{byte-within, byte-then, byte-further}
+use Rattle.text.proofs.Places.{byte-within, byte-then, byte-further, by-byte}
 
-pub end-low : {end : ℕ} → Ends end → (0 < end) × (end < 48)
-end-low ends = ⊎-elim (λ is. omega arith) (λ is. omega arith) ends
+-- the byte that must follow is no digit, nor 0
+after-low : (after : After) → (0 < afterByte after) × (afterByte after < 48)
+after-low Space = omega arith
+after-low LineFeed = omega arith
 
 -- what has begun goes on, from a place on, as a number goes on
 abbrev Spells : List ℕ → ℕ → ℕ → ℕ → ℕ → Type 0
@@ -68,65 +69,70 @@ module _ {text : List ℕ} {from begun number at : ℕ} (so-far : Begun text fro
     further-number fits =
         record { after = omega arith; within = omega arith; some = omega arith; small = fits; spells = further-digit }
 
-    pub too-large : {end : ℕ} → Ends end → decimalLimit ≤ number * 10 + (byte - 48) → DigitsAt text from end begun NoNumber
-    too-large ends large other rest fits e =
-        let low = end-low ends in
+    pub too-large : (after : After) → decimalLimit ≤ number * 10 + (byte - 48) → DigitsAt text from after begun NoNumber
+    too-large after large other rest fits e =
+        let low = after-low after in
         let longer = begun-decimal (number * 10 + (byte - 48)) other (omega arith) (omega arith) (λ digit. omega arith)
         (sym further-digit ∙ e) in
         omega (arith, longer .0)
 
-  pub number-ends : (end : ℕ) → at < length text → getD text at 0 ≡ end → DigitsAt text from end begun (Value number (at + 1))
-  number-ends end inside is = (
-    so-far .small,
-    omega arith,
-    omega arith,
-    so-far .spells ∙ ap (λ (rest : List ℕ). decimal number ++ rest) (byte-then text at (at + 1) end refl inside is),
-  )
-
-  module _ {end : ℕ} (ends : Ends end) where
-    pub other-byte : at < length text → (IsDigit (getD text at 0) → ⊥) → (getD text at 0 ≡ end → ⊥) →
-        DigitsAt text from end begun NoNumber
-    other-byte inside none differs other rest fits e =
-        let low = end-low ends in
+  module _ (after : After) where
+    pub number-ends : at < length text → (IsDigit (getD text at 0) → ⊥) → {read : Number} →
+        read ≡ endedBy after (getD text at 0) number (at + 1) → DigitsAt text from after begun read
+    number-ends inside none said =
+        by-byte (DigitsAt text from after begun) (getD text at 0) (afterByte after) said
+        (λ is. (
+          so-far .small,
+          omega arith,
+          omega arith,
+          so-far .spells ∙ ap (λ (rest : List ℕ). decimal number ++ rest) (byte-then text at (at + 1) _ refl inside is),
+        ))
+        (λ differs other rest fits e.
+        let low = after-low after in
         let stands = byte-then text at (at + 1) (getD text at 0) refl inside refl in
         let word = same-decimal number other (omega arith) (omega arith) (λ digit. omega arith) none
         (ap (λ (left : List ℕ). decimal number ++ left) (sym stands) ∙ sym (so-far .spells) ∙ e) in
-        differs (word .1)
+        differs (word .1))
 
-    pub text-ends : length text ≤ at → DigitsAt text from end begun NoNumber
+    pub text-ends : length text ≤ at → DigitsAt text from after begun NoNumber
     text-ends past other rest fits e =
-        let low = end-low ends in
+        let low = after-low after in
         let longer = begun-decimal number other (omega arith) (omega arith) (λ digit. omega arith) (sym (so-far .spells) ∙ e) in
         let none = simp length-append at (ap length (sym (drop-of-length-le text past) ∙ longer .2)) in
         omega (arith, none)
 
-module _ (text : List ℕ) (at end : ℕ) where
+module _ (text : List ℕ) (at : ℕ) (after : After) where
   -- the byte with which a decimal at the place begins
-  begins-with : (number : ℕ) (rest : List ℕ) → number < decimalLimit → drop at text ≡ decimal number ++ (end ∷ rest) →
+  begins-with : (number : ℕ) (rest : List ℕ) → number < decimalLimit → drop at text ≡ decimal number ++ (afterByte after ∷ rest) →
       getD text at 0 ≡ getD (decimal number) 0 0
   begins-with number rest small e =
       byte-further text at 0 at (omega arith) e
-      ∙ List·getD-append (decimal number) (end ∷ rest) 0 0 (decimal-some number (omega arith))
+      ∙ List·getD-append (decimal number) (afterByte after ∷ rest) 0 0 (decimal-some number (omega arith))
 
-  pub zero-read : Ends end → getD text at 0 ≡ 48 → getD text (at + 1) 0 ≡ end → NumberAt text at end (Value 0 (at + 2))
-  zero-read may is ends =
+  pub leading-zero : getD text at 0 ≡ 48 → (getD text (at + 1) 0 ≡ afterByte after → ⊥) → NumberAt text at after NoNumber
+  leading-zero is differs number rest small e =
+      let none = no-leading-zero number (omega arith) (sym (begins-with number rest small e) ∙ is) in
+      let zero-first =
+      e ∙ ap (λ (word : List ℕ). word ++ (afterByte after ∷ rest)) (ap decimal none ∙ decimal-of-digit 0 (omega arith)) in
+      differs (byte-further text at 1 (at + 1) refl zero-first)
+
+  pub zero-ends : getD text at 0 ≡ 48 → {byte : ℕ} → byte ≡ getD text (at + 1) 0 → {read : Number} →
+      read ≡ endedBy after byte 0 (at + 2) → NumberAt text at after read
+  zero-ends is {byte} second said =
+      by-byte (NumberAt text at after) byte (afterByte after) said
+      (λ same.
+      let ends = sym second ∙ same in
       let within = byte-within text at 48 is (omega arith) in
-      let behind = byte-within text (at + 1) end ends (end-low may .0) in (
+      let behind = byte-within text (at + 1) (afterByte after) ends (after-low after .0) in (
         omega arith,
         omega arith,
         omega arith,
         byte-then text at (at + 1) 48 refl within is
-            ∙ ap₂ _++_ (sym (decimal-of-digit 0 (omega arith))) (byte-then text (at + 1) (at + 2) end (omega arith) behind ends),
-      )
+            ∙ ap₂ _++_ (sym (decimal-of-digit 0 (omega arith))) (byte-then text (at + 1) (at + 2) _ (omega arith) behind ends),
+      ))
+      (λ differs. leading-zero is (λ ends. differs (second ∙ ends)))
 
-  pub leading-zero : getD text at 0 ≡ 48 → (getD text (at + 1) 0 ≡ end → ⊥) → NumberAt text at end NoNumber
-  leading-zero is differs number rest small e =
-      let none = no-leading-zero number (omega arith) (sym (begins-with number rest small e) ∙ is) in
-      let zero-first =
-      e ∙ ap (λ (word : List ℕ). word ++ (end ∷ rest)) (ap decimal none ∙ decimal-of-digit 0 (omega arith)) in
-      differs (byte-further text at 1 (at + 1) refl zero-first)
-
-  pub no-digit : (IsDigit (getD text at 0) → ⊥) → NumberAt text at end NoNumber
+  pub no-digit : (IsDigit (getD text at 0) → ⊥) → NumberAt text at after NoNumber
   no-digit none number rest small e =
       none
       (subst IsDigit (sym (begins-with number rest small e))
@@ -138,6 +144,6 @@ module _ (text : List ℕ) (at end : ℕ) where
         ap (λ (word : List ℕ). word ++ drop (at + 1) text) (decimal-of-digit begun small)
         ∙ sym (byte-then text at (at + 1) (digit begun) refl (byte-within text at (digit begun) is (omega arith)) is)
 
-    pub digits-read : (read : Number) → DigitsAt text (at + 1) end begun read → NumberAt text at end read
+    pub digits-read : (read : Number) → DigitsAt text (at + 1) after begun read → NumberAt text at after read
     digits-read (Value number next) digits = (digits .0, omega arith, digits .2, sym begun-here ∙ digits .3)
     digits-read NoNumber digits = λ number rest fits e. digits number rest fits (begun-here ∙ e)

@@ -14,6 +14,7 @@ use Rattle.query.specs.declared.Comparison.the-variants.{Less, Equal}
 use Rattle.query.specs.declared.Test.{Test}
 use Rattle.query.specs.Tests.{emptySlot}
 use Rattle.text.specs.declared.Asked.{Asked}
+use Rattle.text.specs.declared.After.the-variants.{LineFeed}
 use Rattle.text.specs.declared.Number.the-variants.{NoNumber}
 use Rattle.text.specs.Decimals.{decimal, decimalIn}
 use Rattle.text.specs.Lines.{lineFeed, segmentWord, segmentLine, testLine, textOf}
@@ -56,7 +57,7 @@ empty-refused = Reads.no-segment [] (word-missing [] 0 (omega arith) (λ e. omeg
 pub leading-zero-is-17 : Reads (segmentWord ++ (48 ∷ 56 ∷ lineFeed ∷ [])) (refusedWith 17 0)
 leading-zero-is-17 =
     let text = segmentWord ++ (48 ∷ 56 ∷ lineFeed ∷ []) in
-    Reads.no-segment text (segment-read text refl NoNumber (leading-zero text 8 lineFeed refl (λ e. omega arith)))
+    Reads.no-segment text (segment-read text refl NoNumber (leading-zero text 8 LineFeed refl (λ e. omega arith)))
 
 -- as many tests as one likes
 many-formed : (many : ℕ) → Formed 8 (replicate many emptySlot)

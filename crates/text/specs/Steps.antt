@@ -3,11 +3,12 @@ use Prim.Native.Nat.{ℕ, _+_, _<_, _≤_}
 use mathlib.Core.Path.{_≡_}
 use mathlib.Core.List.{List, _∷_, _++_}
 use mathlib.Core.Bool.{cond}
-use mathlib.Core.Logic.{_⊎_}
 use lib.Dec.{eqb}
 use lib.ListN.{length, getD, drop}
 use Rattle.query.specs.declared.Comparison.{Comparison}
 use Rattle.query.specs.declared.Test.{Test}
+use Rattle.text.specs.declared.After.{After}
+use Rattle.text.specs.declared.After.the-variants.{Space, LineFeed}
 use Rattle.text.specs.declared.Number.{Number}
 use Rattle.text.specs.declared.Number.the-variants.{Value, NoNumber}
 use Rattle.text.specs.declared.Sign.{Sign}
@@ -18,24 +19,31 @@ use Rattle.text.specs.Decimals.{decimal, decimalLimit}
 use Rattle.text.specs.Lines.{space, lineFeed, signOf, segmentLine, testLine, SmallTest}
 use Rattle.text.specs.Reading.{BeginsSegment}
 
--- the byte after a decimal: a line feed or a space
-abbrev pub Ends : ℕ → Type 0
-Ends end = (end ≡ lineFeed) ⊎ (end ≡ space)
+-- the byte that must follow a decimal
+abbrev pub afterByte : After → ℕ
+afterByte Space = space
+afterByte LineFeed = lineFeed
 
--- a decimal and the byte after it: the number and the place behind, or there is none
-abbrev pub NumberAt : List ℕ → ℕ → ℕ → Number → Type 0
-NumberAt text at end (Value number next) =
-    (number < decimalLimit) × (at < next) × (next ≤ length text) × (drop at text ≡ decimal number ++ (end ∷ drop next text))
-NumberAt text at end NoNumber =
-    (number : ℕ) (rest : List ℕ) → number < decimalLimit → drop at text ≡ decimal number ++ (end ∷ rest) → ⊥
+-- a number whose digits have been read and the place behind, if that byte follows
+abbrev pub endedBy : After → ℕ → ℕ → ℕ → Number
+endedBy after byte number next = cond (eqb byte (afterByte after)) (Value number next) NoNumber
+
+-- a decimal and the byte that must follow: the number and the place behind, or there is none
+abbrev pub NumberAt : List ℕ → ℕ → After → Number → Type 0
+NumberAt text at after (Value number next) =
+    (number < decimalLimit) × (at < next) × (next ≤ length text)
+    × (drop at text ≡ decimal number ++ (afterByte after ∷ drop next text))
+NumberAt text at after NoNumber =
+    (number : ℕ) (rest : List ℕ) → number < decimalLimit → drop at text ≡ decimal number ++ (afterByte after ∷ rest) → ⊥
 
 -- the same where a decimal has begun: its digits so far are those of a number, and the rest stands at the place
-abbrev pub DigitsAt : List ℕ → ℕ → ℕ → ℕ → Number → Type 0
-DigitsAt text at end begun (Value number next) =
+abbrev pub DigitsAt : List ℕ → ℕ → After → ℕ → Number → Type 0
+DigitsAt text at after begun (Value number next) =
     (number < decimalLimit) × (at < next) × (next ≤ length text)
-    × (decimal begun ++ drop at text ≡ decimal number ++ (end ∷ drop next text))
-DigitsAt text at end begun NoNumber =
-    (number : ℕ) (rest : List ℕ) → number < decimalLimit → decimal begun ++ drop at text ≡ decimal number ++ (end ∷ rest) → ⊥
+    × (decimal begun ++ drop at text ≡ decimal number ++ (afterByte after ∷ drop next text))
+DigitsAt text at after begun NoNumber =
+    (number : ℕ) (rest : List ℕ) → number < decimalLimit →
+    decimal begun ++ drop at text ≡ decimal number ++ (afterByte after ∷ rest) → ⊥
 
 -- line 0: the size and the place behind, or the text begins with none
 abbrev pub SegmentAt : List ℕ → Number → Type 0

@@ -12,7 +12,7 @@ ghost use Rattle.query.specs.Tests.{literalOf};
 ghost use Rattle.text.specs.Decimals.{decimalLimit};
 ghost use Rattle.text.specs.Lines.{signOf};
 ghost use Rattle.text.specs.Reading.{Reads, refusedWith};
-ghost use Rattle.text.specs.Steps.{Ends, NumberAt, DigitsAt, SegmentAt, SignAt, spacedAt, LineAt};
+ghost use Rattle.text.specs.Steps.{endedBy, NumberAt, DigitsAt, SegmentAt, SignAt, spacedAt, LineAt};
 
 // Decimals are below this.
 const DECIMAL_LIMIT: u64 = 4294967296;
@@ -22,6 +22,12 @@ pub struct Asked {
     pub refusal: Refusal,
     pub size: usize,
     pub query: Query,
+}
+
+// What must follow a decimal: a space after a column, a line feed at the end of a line.
+enum After {
+    Space,
+    LineFeed,
 }
 
 // A decimal with the byte after it, and the place behind both.
@@ -121,7 +127,7 @@ fn read_segment(text: &[u8]) -> Number
         }
         i = i + 1;
     }
-    read_number(text, 8, b'\n')
+    read_number(text, 8, After::LineFeed)
 }
 
 // A line of a test, from a place on: column, space, sign, space, literal, line feed.
@@ -129,7 +135,7 @@ fn read_line(text: &[u8], at: usize) -> Line
     requires { ⌜ at ≤ length (now text) ⌝ }
     ensures { λ r. ⌜ LineAt (now (text .entry)) at r ⌝ }
 {
-    let column = read_number(text, at, b' ');
+    let column = read_number(text, at, After::Space);
     let Number::Value(column, behind) = column else {
         return Line::Malformed;
     };
@@ -137,7 +143,7 @@ fn read_line(text: &[u8], at: usize) -> Line
     let Sign::Compares(comparison, behind) = sign else {
         return Line::Malformed;
     };
-    let literal = read_number(text, behind, b'\n');
+    let literal = read_number(text, behind, After::LineFeed);
     let Number::Value(literal, behind) = literal else {
         return Line::Malformed;
     };
@@ -204,29 +210,23 @@ fn spaced(text: &[u8], at: usize, comparison: Comparison) -> Sign
 }
 
 // A decimal without leading zeros, below 2^32, and the byte that must follow it.
-fn read_number(text: &[u8], at: usize, end: u8) -> Number
-    requires { ⌜ (at ≤ length (now text)) × Ends end ⌝ }
-    ensures { λ r. ⌜ NumberAt (now (text .entry)) at end r ⌝ }
+fn read_number(text: &[u8], at: usize, after: After) -> Number
+    requires { ⌜ at ≤ length (now text) ⌝ }
+    ensures { λ r. ⌜ NumberAt (now (text .entry)) at after r ⌝ }
 {
     let first = byte_at(text, at);
     match first {
-        b'0' => {
-            if byte_at(text, at + 1) == end {
-                Number::Value(0, at + 2)
-            } else {
-                Number::NoNumber
-            }
-        }
-        b'1'..=b'9' => read_digits(text, at + 1, end, wide(first) - 48),
+        b'0' => ended(after, byte_at(text, at + 1), 0, at + 2),
+        b'1'..=b'9' => read_digits(text, at + 1, after, wide(first) - 48),
         _ => Number::NoNumber,
     }
 }
 
 // Goes on with a decimal that is not 0, from a place on: its further digits, and the byte that must
 // follow them. It ends since each turn leaves less of the text.
-fn read_digits(text: &[u8], from: usize, end: u8, begun: u64) -> Number
-    requires { ⌜ (from ≤ length (now text)) × Ends end × (0 < begun) × (begun < decimalLimit) ⌝ }
-    ensures { λ r. ⌜ DigitsAt (now (text .entry)) from end begun r ⌝ }
+fn read_digits(text: &[u8], from: usize, after: After, begun: u64) -> Number
+    requires { ⌜ (from ≤ length (now text)) × (0 < begun) × (begun < decimalLimit) ⌝ }
+    ensures { λ r. ⌜ DigitsAt (now (text .entry)) from after begun r ⌝ }
 {
     let mut number = begun;
     let mut at = from;
@@ -240,14 +240,24 @@ fn read_digits(text: &[u8], from: usize, end: u8, begun: u64) -> Number
                 }
                 at = at + 1;
             }
-            b' ' | b'\n' => {
-                if byte == end {
-                    return Number::Value(number, at + 1);
-                }
-                return Number::NoNumber;
-            }
-            _ => return Number::NoNumber,
+            _ => return ended(after, byte, number, at + 1),
         }
     }
     Number::NoNumber
+}
+
+// The number and the place behind, if the byte after it is the one that must follow.
+fn ended(after: After, byte: u8, number: u64, next: usize) -> Number
+    ensures { λ r. ⌜ r ≡ endedBy after byte number next ⌝ }
+{
+    match after {
+        After::Space => match byte {
+            b' ' => Number::Value(number, next),
+            _ => Number::NoNumber,
+        },
+        After::LineFeed => match byte {
+            b'\n' => Number::Value(number, next),
+            _ => Number::NoNumber,
+        },
+    }
 }

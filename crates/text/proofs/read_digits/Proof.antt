@@ -1,44 +1,30 @@
 -- `text::read_digits` meets its contract: at each turn the digits so far are those of the number so far. Assumes nothing.
 use Prim.Native.Nat.{_-_}
 use native.Mathlib.Omega.{arith}
-use mathlib.Core.Path.{sym, subst}
+use mathlib.Core.Logic.{⊎-elim}
 use borrow.Author.Needs.{needs}
 use lib.ListN.{length}
-use Rattle.text.specs.Steps.{Ends}
-use Rattle.text.proofs.Numbers.{end-low, Begun, nothing-further, further-number, number-ends, too-large, other-byte, text-ends}
+use Rattle.text.specs.declared.After.{After}
+use Rattle.text.proofs.Numbers.{Begun, nothing-further, further-number, number-ends, too-large, text-ends}
 use Rattle.text.proofs.read_digits.Statement.{statement}
 use Rattle.text.proofs.read_digits.Tie as tie
 
 abbrev Inv-loop : tie.InvT-loop
-Inv-loop text from end begun number₀ at₀ number at = Begun text from begun number at
+Inv-loop text from after begun number₀ at₀ number at = Begun text from begun number at
 
 abbrev μ-loop : tie.MeasureT-loop
-μ-loop text from end begun number₀ at₀ number at = length text - at
+μ-loop text from after begun number₀ at₀ number at = length text - at
 
-endsAt : (c : tie.At-loop Inv-loop μ-loop) → Ends (c .before .before .args .end)
-endsAt c = c .before .before .pre .1
+abbrev afterAt : tie.At-loop Inv-loop μ-loop → After
+afterAt c = c .before .before .args .after
 
 loop-holds : tie.Need-loop-holds Inv-loop μ-loop
 loop-holds c =
     let start = c .before in
-    nothing-further _ _ _ (start .pre .0) (start .pre .2) (start .pre .3)
+    nothing-further _ _ _ (start .pre .0) (start .pre .1) (start .pre .2)
 
 shared-slice-read-byte : tie.Need-shared-slice-read-byte Inv-loop μ-loop
 shared-slice-read-byte c = omega arith
-
-add-t13 : tie.Need-add-t13 Inv-loop μ-loop
-add-t13 c = omega arith
-
-returns : tie.Need-returns Inv-loop μ-loop
-returns c =
-    let turn = c .before .before .before .before in
-    number-ends (turn .loop .inv) _ (omega arith) (omega arith)
-
-returns-2 : tie.Need-returns-2 Inv-loop μ-loop
-returns-2 c =
-    let turn = c .before .before .before .before in
-    other-byte (turn .loop .inv) (endsAt turn) (omega arith) (λ d. omega (arith, end-low (c .before .match .keys1)))
-    (λ e. omega arith)
 
 mul-number : tie.Need-mul-number Inv-loop μ-loop
 mul-number c = omega arith
@@ -52,11 +38,11 @@ sub-number c = omega arith
 add-number : tie.Need-add-number Inv-loop μ-loop
 add-number c = omega arith
 
-returns-3 : tie.Need-returns-3 Inv-loop μ-loop
-returns-3 c =
-    let turn = c .before .before .before .before .before .before .before in
+returns : tie.Need-returns Inv-loop μ-loop
+returns c =
+    let turn = c .before .before .before .before .before .before in
     too-large (turn .loop .inv) (c .before .wide .result) (omega arith)
-    (c .before .wide .ensures .0) (omega arith) (endsAt turn) (omega arith)
+    (c .before .wide .ensures .0) (omega arith) (afterAt turn) (omega arith)
 
 add-at : tie.Need-add-at Inv-loop μ-loop
 add-at c = omega arith
@@ -66,26 +52,24 @@ loop-less c = omega arith
 
 loop-again : tie.Need-loop-again Inv-loop μ-loop
 loop-again c =
-    let turn = c .before .before .before .before .before .before .before in
+    let turn = c .before .before .before .before .before .before in
     further-number (turn .loop .inv) (c .before .wide .result) (omega arith)
     (c .before .wide .ensures .0) (omega arith) (omega arith)
 
-returns-4 : tie.Need-returns-4 Inv-loop μ-loop
-returns-4 c =
+add-ended : tie.Need-add-ended Inv-loop μ-loop
+add-ended c = omega arith
+
+ended-requires : tie.Need-ended-requires Inv-loop μ-loop
+ended-requires c κs = search needs
+
+returns-2 : tie.Need-returns-2 Inv-loop μ-loop
+returns-2 c =
     let turn = c .before .before .before .before in
-    other-byte (turn .loop .inv) (endsAt turn) (omega arith) (λ d. omega arith)
-    (λ e. c .before .match .rest .1 (subst Ends (sym e) (endsAt turn)))
+    number-ends (turn .loop .inv) (afterAt turn) (omega arith)
+    (λ d. ⊎-elim (λ low. omega arith) (λ high. omega arith) (c .before .if1 .came)) (c .ended .ensures)
 
-returns-5 : tie.Need-returns-5 Inv-loop μ-loop
-returns-5 c =
-    let turn = c .before .before .before .before .before in
-    other-byte (turn .loop .inv) (endsAt turn) (omega arith) (λ d. omega arith)
-    (λ e. omega (arith, end-low (endsAt turn)))
-
-returns-6 : tie.Need-returns-6 Inv-loop μ-loop
-returns-6 c =
-    let turn = c .before in
-    text-ends (turn .loop .inv) (endsAt turn) (omega arith)
+returns-3 : tie.Need-returns-3 Inv-loop μ-loop
+returns-3 c = text-ends (c .before .loop .inv) (afterAt (c .before)) (omega arith)
 
 pub read-digits-spec : {M : Type 1} → statement M
 read-digits-spec =
@@ -95,17 +79,15 @@ read-digits-spec =
     μ-loop
     loop-holds
     shared-slice-read-byte
-    add-t13
-    returns
-    returns-2
     mul-number
     wide-requires
     sub-number
     add-number
-    returns-3
+    returns
     add-at
     loop-less
     loop-again
-    returns-4
-    returns-5
-    returns-6)
+    add-ended
+    ended-requires
+    returns-2
+    returns-3)

@@ -1,9 +1,8 @@
 -- `text::read_segment` meets its contract: byte by byte the word, and then a decimal. Assumes nothing.
 use Prim.Native.Nat.{ℕ, _-_, _<_, _≤_}
 use native.Mathlib.Omega.{arith}
-use mathlib.Core.Path.{_≡_, refl, sym, _∙_}
+use mathlib.Core.Path.{_≡_, sym, _∙_}
 use mathlib.Core.List.{List, _++_}
-use mathlib.Core.Logic.{inl}
 use borrow.Author.Needs.{needs}
 use borrow.Author.Count.{below-none, below-more}
 use lib.ListN.{length, getD, drop}
@@ -54,7 +53,7 @@ loop-again c =
     (omega arith, below-more _ (turn .loop .i) (turn .loop .inv .1) (sym (c .before .before .byte-at .ensures) ∙ c .if1 .left))
 
 read-number-requires : tie.Need-read-number-requires Inv-loop μ-loop
-read-number-requires c κs = (read-here c .0, inl refl)
+read-number-requires c κs = read-here c .0
 
 returns-2 : tie.Need-returns-2 Inv-loop μ-loop
 returns-2 c = segment-read _ (read-here (c .before) .1) (c .read-number .result) (c .read-number .ensures)

@@ -1,0 +1,28 @@
+-- `text::ended` meets its contract: the byte is the one that must follow, or it is not. Assumes nothing.
+use mathlib.Core.Path.{sym}
+use borrow.Author.Tests.{ne-eqb}
+use Rattle.basis.proofs.Truth.{missed}
+use borrow.Author.Needs.{needs}
+use Rattle.text.proofs.ended.Statement.{statement}
+use Rattle.text.proofs.ended.Tie as tie
+
+enum-told : tie.Need-enum-told
+enum-told c = search needs
+
+enum-told-2 : tie.Need-enum-told-2
+enum-told-2 c = search needs
+
+returns : tie.Need-returns
+returns c = rw (c .before .enum-told .given .1, c .match2 .keys1)
+
+returns-2 : tie.Need-returns-2
+returns-2 c = rw (c .before .enum-told .given .1) (sym (missed _ _ _ (ne-eqb _ _ (c .match2 .rest .1))))
+
+returns-3 : tie.Need-returns-3
+returns-3 c = rw (c .before .enum-told2 .given .1, c .match3 .keys1)
+
+returns-4 : tie.Need-returns-4
+returns-4 c = rw (c .before .enum-told2 .given .1) (sym (missed _ _ _ (ne-eqb _ _ (c .match3 .rest .1))))
+
+pub ended-spec : {M : Type 1} → statement M
+ended-spec = tie.close (tie.spec enum-told enum-told-2 returns returns-2 returns-3 returns-4)
