@@ -7,10 +7,11 @@ use query::Test;
 use register::Refusal;
 ghost use mathlib.Core.Path.{_≡_};
 ghost use Prim.Native.Nat.{_+_, _<_, _≤_};
+ghost use lib.Dec.{eqb};
 ghost use lib.ListN.{length, getD};
 ghost use Rattle.query.specs.Tests.{literalOf};
 ghost use Rattle.text.specs.Decimals.{decimalLimit};
-ghost use Rattle.text.specs.Lines.{signOf};
+ghost use Rattle.text.specs.Lines.{segmentWord, signOf};
 ghost use Rattle.text.specs.Reading.{Reads, refusedWith};
 ghost use Rattle.text.specs.Steps.{endedBy, NumberAt, DigitsAt, SegmentAt, SignAt, spacedAt, LineAt};
 
@@ -119,15 +120,31 @@ fn wide(x: u8) -> u64
 fn read_segment(text: &[u8]) -> Number
     ensures { λ r. ⌜ SegmentAt (now (text .entry)) r ⌝ }
 {
-    let word = b"segment ";
     let mut i = 0;
     while i < 8 {
-        if byte_at(text, i) != word[i] {
+        if !begins(i, byte_at(text, i)) {
             return Number::NoNumber;
         }
         i = i + 1;
     }
     read_number(text, 8, After::LineFeed)
+}
+
+// Whether this byte stands at a place of the word "segment" and its space.
+fn begins(place: usize, byte: u8) -> bool
+    requires { ⌜ place < 8 ⌝ }
+    ensures { λ r. ⌜ r ≡ eqb byte (getD segmentWord place 0) ⌝ }
+{
+    match byte {
+        b's' => place == 0,
+        b'e' => place == 1 || place == 4,
+        b'g' => place == 2,
+        b'm' => place == 3,
+        b'n' => place == 5,
+        b't' => place == 6,
+        b' ' => place == 7,
+        _ => false,
+    }
 }
 
 // A line of a test, from a place on: column, space, sign, space, literal, line feed.

@@ -5,6 +5,7 @@ use mathlib.Core.Path.{_≡_, sym, _∙_}
 use mathlib.Core.List.{List, _++_}
 use borrow.Author.Needs.{needs}
 use borrow.Author.Count.{below-none, below-more}
+use borrow.Author.Tests.{eqb-true, eqb-false, not-true, not-false}
 use lib.ListN.{length, getD, drop}
 use Rattle.text.specs.Lines.{segmentWord}
 use Rattle.text.proofs.ReadLines.{word-read, word-missing, segment-read}
@@ -12,13 +13,13 @@ use Rattle.text.proofs.read_segment.Statement.{statement}
 use Rattle.text.proofs.read_segment.Tie as tie
 
 abbrev Inv-loop : tie.InvT-loop
-Inv-loop text word i₀ i = (i ≤ 8) × ((k : ℕ) → k < i → getD text k 0 ≡ getD segmentWord k 0)
+Inv-loop text i₀ i = (i ≤ 8) × ((k : ℕ) → k < i → getD text k 0 ≡ getD segmentWord k 0)
 
 abbrev μ-loop : tie.MeasureT-loop
-μ-loop text word i₀ i = 8 - i
+μ-loop text i₀ i = 8 - i
 
 abbrev textAt : tie.After-loop Inv-loop μ-loop → List ℕ
-textAt c = c .before .before .before .before .args .text .now
+textAt c = c .before .before .before .args .text .now
 
 -- past the loop the word stands at the front
 read-here : (c : tie.After-loop Inv-loop μ-loop) → (8 ≤ length (textAt c)) × (textAt c ≡ segmentWord ++ drop 8 (textAt c))
@@ -32,14 +33,15 @@ loop-holds c = (omega arith, below-none _)
 byte-at-requires : tie.Need-byte-at-requires Inv-loop μ-loop
 byte-at-requires c κs = search needs
 
-element-copy-out-if1 : tie.Need-element-copy-out-if1 Inv-loop μ-loop
-element-copy-out-if1 c = omega arith
+begins-requires : tie.Need-begins-requires Inv-loop μ-loop
+begins-requires c κs = search needs
 
 returns : tie.Need-returns Inv-loop μ-loop
 returns c =
     let turn = c .before .before .before .before in
     word-missing _ (turn .loop .i) (c .before .before .before .loop-test .taken)
-    (λ e. c .if1 .taken (c .before .before .byte-at .ensures ∙ e))
+    (λ e.
+    eqb-false _ _ (sym (c .before .begins .ensures) ∙ not-true _ (c .if1 .taken)) (c .before .before .byte-at .ensures ∙ e))
 
 add-i : tie.Need-add-i Inv-loop μ-loop
 add-i c = omega arith
@@ -50,7 +52,11 @@ loop-less c = omega arith
 loop-again : tie.Need-loop-again Inv-loop μ-loop
 loop-again c =
     let turn = c .before .before .before .before in
-    (omega arith, below-more _ (turn .loop .i) (turn .loop .inv .1) (sym (c .before .before .byte-at .ensures) ∙ c .if1 .left))
+    let byte = c .before .before .byte-at in (
+      omega arith,
+      below-more _ (turn .loop .i) (turn .loop .inv .1)
+          (sym (byte .ensures) ∙ eqb-true _ _ (sym (c .before .begins .ensures) ∙ not-false _ (c .if1 .left))),
+    )
 
 read-number-requires : tie.Need-read-number-requires Inv-loop μ-loop
 read-number-requires c κs = read-here c .0
@@ -66,7 +72,7 @@ read-segment-spec =
     μ-loop
     loop-holds
     byte-at-requires
-    element-copy-out-if1
+    begins-requires
     returns
     add-i
     loop-less
