@@ -1,13 +1,15 @@
 -- What the program's steps answer, as far as it does not hang on the operating system. Assumes nothing.
-use Prim.Native.Nat.{ℕ, _≤_}
+use Prim.Native.Nat.{ℕ, _-_, _≤_, min}
 use mathlib.Core.Path.{_≡_}
 use mathlib.Core.List.{List}
 use mathlib.Core.Bool.{Bool, true}
 use lib.Dec.{eqb}
+use lib.ListN.{length}
 use Rattle.files.specs.declared.Taken.{Taken}
 use Rattle.files.specs.declared.Taken.the-variants.{Unreadable}
 use Rattle.files.specs.Taking.{numberOf, countOf, TakenInto}
-use Rattle.listing.specs.Inputs.{mostFile, unreadInput, ListedRead}
+use Rattle.listing.specs.Inputs.{mostFile, unreadInput, ListedRead, PrintLength}
+use Rattle.list_parts.specs.declared.Piece.{Piece}
 use Rattle.list_parts.specs.declared.Printed.{Printed}
 
 -- a file that was read answers no number
@@ -23,7 +25,14 @@ pub record TextTaken (file : Taken) (before after : List ℕ) (text : Taken) : T
   pub into : TakenInto before after text
   pub none-asked : refusedFile file ≡ true → (text ≡ Unreadable) × (after ≡ before)
 
--- no more is printed than there is, and what there is is as long as what the inputs list
+-- a piece is made of the listing from a place on, and no more of it is taken than was wanted of it: all that is left, as far as the
+-- buffer goes, so something where something is left
+pub record PieceOf (unread : Bool) (file text : List ℕ) (from : ℕ) (before after : List ℕ) (piece : Piece) : Type 0 where
+  pub made : ListedRead unread file text from before after (piece .all)
+  pub taken : piece .put ≤ piece .wanted
+  pub wanted : piece .wanted ≡ min (length after) (piece .all - from)
+
+-- no more is printed than there is, which is as long as what the inputs list
 pub record PrintedOf (unread : Bool) (file text : List ℕ) (printed : Printed) : Type 0 where
   pub within : printed .written ≤ printed .all
-  pub whole : (before after : List ℕ) × ListedRead unread file text 0 before after (printed .all)
+  pub whole : PrintLength unread file text (printed .all)

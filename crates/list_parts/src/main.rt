@@ -7,11 +7,11 @@ use libc::STDOUT_FILENO;
 use listing::MOST_FILE;
 use listing::MOST_TEXT;
 ghost use mathlib.Core.Path.{_≡_};
-ghost use Prim.Native.Nat.{_≤_, _<_};
+ghost use Prim.Native.Nat.{_-_, _≤_, _<_, min};
 ghost use lib.ListN.{length, take};
 ghost use Rattle.files.specs.Taking.{countOf};
 ghost use Rattle.listing.specs.Inputs.{unreadInputs};
-ghost use Rattle.list_parts.specs.Printing.{isRead, refusedFile, TextTaken, PrintedOf};
+ghost use Rattle.list_parts.specs.Printing.{isRead, refusedFile, TextTaken, PieceOf, PrintedOf};
 
 // Bytes that are printed at a time.
 const PIECE: usize = 65536;
@@ -19,6 +19,13 @@ const PIECE: usize = 65536;
 // How many bytes of the listing were written, of how many there are.
 struct Printed {
     written: usize,
+    all: usize,
+}
+
+// Of a piece of the listing: how many bytes were taken, of how many; and how many the whole listing has.
+struct Piece {
+    put: usize,
+    wanted: usize,
     all: usize,
 }
 
@@ -81,31 +88,59 @@ fn is_refused(taken: Taken) -> bool
     listing::unread(files::is_read(taken), files::bytes_of(taken), MOST_FILE)
 }
 
-// Prints the listing in pieces as long as `out`, and stops at the first that cannot be written whole. It ends since each
-// turn before that writes a byte at least.
+// Prints the listing in pieces as long as `out`, and stops at the first that is not taken whole. It ends since each turn
+// before that writes a byte at least, and no listing is longer than a number can say.
 fn print_listing(taken: bool, file: &[u8], given: bool, text: &[u8], out: &mut [u8]) -> Printed
     requires { ⌜ 0 < length (now out) ⌝ }
     ensures { λ r. ⌜ PrintedOf (unreadInputs taken (length (now (file .entry))) given (length (now (text .entry))))
         (now (file .entry)) (now (text .entry)) r ⌝ }
 {
-    let all = listing::write_read(taken, file, given, text, 0, out);
     let mut written: usize = 0;
     loop {
-        let n = least(out.len(), all - written);
-        let put = files::put_all(STDOUT_FILENO, &out[..n]);
-        written = written + put;
-        if put < n {
-            return Printed { written, all };
+        let piece = print_piece(taken, file, given, text, written, out);
+        written = written + piece.put;
+        if piece.put < piece.wanted {
+            return Printed {
+                written,
+                all: piece.all,
+            };
         }
-        if all <= written {
-            return Printed { written, all };
+        if piece.all <= written {
+            return Printed {
+                written,
+                all: piece.all,
+            };
         }
-        listing::write_read(taken, file, given, text, written, out);
     }
 }
 
+// Makes the piece of the listing that begins at a place, and writes it.
+fn print_piece(
+    taken: bool,
+    file: &[u8],
+    given: bool,
+    text: &[u8],
+    from: usize,
+    out: &mut [u8],
+) -> Piece
+    ensures { λ r. ⌜ PieceOf (unreadInputs taken (length (now (file .entry))) given (length (now (text .entry))))
+        (now (file .entry)) (now (text .entry)) from (now (out .entry)) (now (out .exit)) r ⌝ }
+{
+    let all = listing::write_read(taken, file, given, text, from, out);
+    let wanted = least(out.len(), left(all, from));
+    let put = files::put_all(STDOUT_FILENO, &out[..wanted]);
+    Piece { put, wanted, all }
+}
+
+// How many bytes there are from a place on: none where it lies at the end or behind.
+fn left(all: usize, from: usize) -> usize
+    ensures { λ r. ⌜ r ≡ all - from ⌝ }
+{
+    if from < all { all - from } else { 0 }
+}
+
 fn least(a: usize, b: usize) -> usize
-    ensures { λ r. ⌜ (r ≤ a) × (r ≤ b) × (0 < a → 0 < b → 0 < r) ⌝ }
+    ensures { λ r. ⌜ r ≡ min a b ⌝ }
 {
     if a < b { a } else { b }
 }

@@ -5,3 +5,4 @@ pub mod FoundLines
 pub mod Outcomes
 pub mod Inputs
 pub mod SingleReply
+pub mod Lengths

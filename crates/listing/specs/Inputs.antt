@@ -1,12 +1,16 @@
 -- What the program prints of the inputs that it read: 18 for the file, 18 for the text, or the listing. Assumes nothing.
 use Prim.Native.Nat.{ℕ}
+use mathlib.Core.Path.{_≡_}
 use mathlib.Core.List.{List}
 use mathlib.Core.Bool.{Bool, true, false, not, _||_}
 use lib.Dec.{ltb}
+use lib.ListN.{length}
 use Rattle.register.specs.declared.Refusal.{Refusal}
+use Rattle.text.specs.declared.Asked.{Asked}
+use Rattle.text.specs.Reading.{Reads}
 use Rattle.lines.specs.Pieces.{PieceWritten}
 use Rattle.lines.specs.Lines.{refusedLine}
-use Rattle.listing.specs.Listing.{Listed}
+use Rattle.listing.specs.Listing.{listingOf, Listed}
 
 -- a file of more than 65,536 bytes is not taken, nor a text of more than 4,096
 abbrev pub mostFile : ℕ
@@ -32,3 +36,9 @@ abbrev pub ListedRead : Bool → List ℕ → List ℕ → ℕ → List ℕ → 
 ListedRead unread file text from before after answer =
     elim unread as (λ unread. Type 0)
     [ true ↦ PieceWritten (refusedLine refusal18) from before after answer | false ↦ Listed file text from before after answer ]
+
+-- how many bytes that has in all
+abbrev pub PrintLength : Bool → List ℕ → List ℕ → ℕ → Type 0
+PrintLength unread file text bytes =
+    elim unread as (λ unread. Type 0)
+    [ true ↦ bytes ≡ length (refusedLine refusal18) | false ↦ (asked : Asked) × (Reads text asked × (bytes ≡ length (listingOf file asked))) ]

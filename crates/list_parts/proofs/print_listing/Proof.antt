@@ -1,52 +1,55 @@
--- `list_parts::print_listing` meets its contract: each piece is what `out` holds or what is left. The measure is how many bytes are
--- left to print. Assumes nothing.
-use Prim.Native.Nat.{_-_, _≤_, _<_}
+-- `list_parts::print_listing` meets its contract: each piece begins where those before it end, and no more is written than there is.
+-- The measure is how many numbers are left above what is written. Assumes nothing.
+use Prim.Native.Nat.{_+_, _-_, _≤_, _<_, _^_}
 use native.Mathlib.Omega.{arith}
-use mathlib.Core.Path.{_≡_, sym}
-use mathlib.Core.List.{List}
+use mathlib.Core.Path.{_≡_, refl}
 use lib.ListN.{length}
-use lib.Seq.{length-take-le}
 use borrow.Author.Needs.{needs}
-use Rattle.listing.specs.Inputs.{unreadInputs, ListedRead}
+use Rattle.listing.specs.Inputs.{unreadInputs}
 use Rattle.list_parts.specs.Printing.{PrintedOf}
+use Rattle.list_parts.proofs.Pieces.{Reached, length-told, piece-ends, goes-on, some-wanted}
 use Rattle.list_parts.proofs.print_listing.Statement.{statement}
 use Rattle.list_parts.proofs.print_listing.Tie as tie
 
 abbrev Inv-loop : tie.InvT-loop
-Inv-loop taken file given text out₀ all written₀ out written =
-    (0 < length out) × (length out ≡ length out₀)
-    × PrintedOf (unreadInputs taken (length file) given (length text)) file text (record { written = written; all = all })
+Inv-loop taken file given text out₀ written₀ out written =
+    (0 < length out) × (length out ≡ length out₀) × Reached (unreadInputs taken (length file) given (length text)) file text written
 
 abbrev μ-loop : tie.MeasureT-loop
-μ-loop taken file given text out₀ all written₀ out written = all - written
+μ-loop taken file given text out₀ written₀ out written = 2 ^ 64 - written
 
--- a piece is the front of `out`, and no more of it is taken than there is
-front : (c : tie.After-put-all Inv-loop μ-loop) → c .put-all .result ≤ c .before .before .least .result
-front c =
-    let out = c .before .before .before .loop .out in
-    let n = c .before .before .least .result in
-    omega (arith, length-take-le n out (omega arith))
+-- the piece of a turn, which ends within the listing
+abbrev turn : tie.After-print-piece Inv-loop μ-loop → tie.At-loop Inv-loop μ-loop
+turn c = c .before .before
+
+ends : (c : tie.After-print-piece Inv-loop μ-loop) → turn c .loop .written + c .print-piece .result .put ≤ c .print-piece .result .all
+ends c = piece-ends _ _ _ _ _ _ _ (c .print-piece .ensures) (turn c .loop .inv .2)
 
 loop-holds : tie.Need-loop-holds Inv-loop μ-loop
-loop-holds c = (omega arith, search needs, record { within = omega arith; whole = (_, _, c .before .before .write-read .ensures) })
-
-slice-aggregate-put-all : tie.Need-slice-aggregate-put-all Inv-loop μ-loop
-slice-aggregate-put-all c = sym (length-take-le _ _ (omega arith))
+loop-holds c = (omega arith, refl, λ all known. omega arith)
 
 add-written : tie.Need-add-written Inv-loop μ-loop
-add-written c = omega (arith, front c)
+add-written c = omega (arith, ends (c .before .before .before))
 
 returns : tie.Need-returns Inv-loop μ-loop
-returns c = record { within = omega (arith, front (c .before)); whole = c .before .before .before .before .loop .inv .2 .whole }
+returns c =
+    let put = c .before .before .before .before .before in
+    record { within = ends put; whole = length-told _ _ _ _ _ _ _ (put .print-piece .ensures) }
 
 returns-2 : tie.Need-returns-2 Inv-loop μ-loop
-returns-2 c = record { within = omega (arith, front (c .before .before)); whole = c .before .before .before .before .before .loop .inv .2 .whole }
+returns-2 c =
+    let put = c .before .before .before .before .before .before .before in
+    record { within = ends put; whole = length-told _ _ _ _ _ _ _ (put .print-piece .ensures) }
 
 loop-less : tie.Need-loop-less Inv-loop μ-loop
-loop-less c = omega (arith, c .before .before .before .before .before .before .before .before .least .ensures .2 (omega arith) (omega arith))
+loop-less c =
+    let put = c .before .before .before .before .before .before .before in
+    omega (arith, ends put, some-wanted _ _ _ _ _ _ _ (put .print-piece .ensures) (omega arith) (omega (arith, ends put)))
 
 loop-again : tie.Need-loop-again Inv-loop μ-loop
-loop-again c = (omega arith, search needs, record { within = omega arith; whole = c .before .before .before .before .before .before .before .before .before .loop .inv .2 .whole })
+loop-again c =
+    let put = c .before .before .before .before .before .before .before in
+    (omega arith, search needs, goes-on _ _ _ _ _ _ _ (put .print-piece .ensures) (turn put .loop .inv .2))
 
 pub print-listing-spec : {M : Type 1} → statement M
 print-listing-spec =
@@ -54,18 +57,12 @@ print-listing-spec =
     (tie.spec
     Inv-loop
     μ-loop
-    (λ c κs. search needs)
     loop-holds
-    (λ c. search needs)
-    (λ c κs. search needs)
-    (λ c. search needs)
-    slice-aggregate-put-all
     (λ c κs. search needs)
     add-written
     (λ c. search needs)
     returns
     (λ c. search needs)
     returns-2
-    (λ c κs. search needs)
     loop-less
     loop-again)
