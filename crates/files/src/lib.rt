@@ -48,7 +48,7 @@ pub fn take_all(fd: i32, buffer: &mut [u8]) -> Taken
     while done < buffer.len() {
         let taken = take_more(fd, buffer, done);
         let Taken::Bytes(more) = taken else {
-            return Taken::Unreadable;
+            return taken;
         };
         if more == 0 {
             return Taken::Bytes(done);
@@ -97,7 +97,8 @@ fn taken_by(got: isize, part: &[u8]) -> Taken
     ensures within { λ r. ⌜ countOf r ≤ length (now (part .entry)) ⌝ }
 {
     if got < 0 {
-        return Taken::Unreadable;
+        Taken::Unreadable
+    } else {
+        Taken::Bytes(io::count(got, part))
     }
-    Taken::Bytes(io::count(got, part))
 }

@@ -21,4 +21,4 @@ returns-2 c =
     )
 
 pub taken-by-spec : {M : Type 1} → statement M
-taken-by-spec = tie.close (tie.spec returns (λ c κs. search needs) returns-2)
+taken-by-spec = tie.close (tie.spec (λ c κs. search needs) returns returns-2)
