@@ -1,4 +1,5 @@
-// Prints the file of the example register of ten rows, two columns of 11 and 3 bits, as the writer makes it.
+// Prints the file of the example register of ten rows, two columns of 11 and 3 bits, as the writer makes it. Where not all of
+// it can be written it says so on standard error.
 use libc::STDOUT_FILENO;
 use writer::Written;
 
@@ -28,8 +29,10 @@ fn main() {
     ];
     // as long as the file
     let mut out = [0u8; 62];
-    let Written::Bytes(_) = writer::write(10, &widths, &codes, &mut out) else {
+    let Written::Bytes(bytes) = writer::write(10, &widths, &codes, &mut out) else {
         return;
     };
-    io::write_all(STDOUT_FILENO, &out);
+    if files::put_all(STDOUT_FILENO, &out) < bytes {
+        os::fail(b"make_p6: the file is not whole");
+    }
 }

@@ -1,44 +1,49 @@
--- `make_recall::fill` puts each code where there is room for it: as many places as it counts. The measure is how many are left.
--- Assumes nothing.
-use Prim.Native.Nat.{_-_}
-use mathlib.Core.Path.{_≡_}
+-- `make_recall::fill` meets its contract: the codes up to a place stand there. The measure is how many are left. Assumes nothing.
+use Prim.Native.Nat.{ℕ, _-_, _≤_}
+use native.Mathlib.Omega.{arith}
+use native.Mathlib.Nat.{zero-add}
+use mathlib.Core.Path.{_≡_, ap, _∙_}
+use mathlib.Core.List.{map}
 use lib.ListN.{length}
 use borrow.Author.Needs.{needs}
+use Rattle.basis.specs.Lists.{below}
+use Rattle.basis.specs.Buffers.{laid}
+use Rattle.basis.proofs.Buffers.{Filled, filled-nothing, filled-element}
+use Rattle.make_recall.specs.Pickups.{codeAt}
 use Rattle.make_recall.proofs.fill.Statement.{statement}
 use Rattle.make_recall.proofs.fill.Tie as tie
 
 abbrev Inv-loop : tie.InvT-loop
-Inv-loop codes₀ at₀ at-end codes at = (at-end ≡ length codes) × (length codes ≡ length codes₀)
+Inv-loop codes₀ at₀ at-end codes at =
+    (at-end ≡ length codes₀) × (at ≤ at-end) × Filled codes₀ 0 (map codeAt (below at)) codes
 
 abbrev μ-loop : tie.MeasureT-loop
 μ-loop codes₀ at₀ at-end codes at = at-end - at
 
 loop-holds : tie.Need-loop-holds Inv-loop μ-loop
-loop-holds c = search needs
-
-code-of-requires : tie.Need-code-of-requires Inv-loop μ-loop
-code-of-requires c κs = search needs
+loop-holds c = (search needs, omega arith, filled-nothing _ _)
 
 mul-codes : tie.Need-mul-codes Inv-loop μ-loop
-mul-codes c = search needs
+mul-codes c = omega (arith, c .before .before .loop .inv .2 .same-length)
 
 slice-write-codes : tie.Need-slice-write-codes Inv-loop μ-loop
-slice-write-codes c = search needs
-
-add-at : tie.Need-add-at Inv-loop μ-loop
-add-at c = search needs
-
-loop-less : tie.Need-loop-less Inv-loop μ-loop
-loop-less c = search needs
+slice-write-codes c = omega (arith, c .before .before .loop .inv .2 .same-length)
 
 loop-again : tie.Need-loop-again Inv-loop μ-loop
-loop-again c = search needs
+loop-again c =
+    let turn = c .before .before .loop in
+    let stored = filled-element _ 0 codeAt (turn .at) (turn .inv .2) (omega arith) in
+    (search needs, omega arith, rw (c .code-of .ensures) (rw zero-add at stored))
 
 same-length : tie.Need-same-length Inv-loop μ-loop
-same-length c = search needs
+same-length c = c .before .loop .inv .2 .same-length
 
 returns : tie.Need-returns Inv-loop μ-loop
-returns c = search needs
+returns c =
+    let turn = c .before .loop in
+    let codes = c .before .before .before .args .codes .now in
+    let all : turn .at ≡ length codes = omega arith in
+    turn .inv .2 .filled ∙ ap (λ (n : ℕ). laid codes 0 (map codeAt (below n))) all
 
 pub fill-spec : {M : Type 1} → statement M
 fill-spec =
@@ -47,11 +52,11 @@ fill-spec =
     Inv-loop
     μ-loop
     loop-holds
-    code-of-requires
+    (λ c κs. search needs)
     mul-codes
     slice-write-codes
-    add-at
-    loop-less
+    (λ c. search needs)
+    (λ c. search needs)
     loop-again
     same-length
     returns)

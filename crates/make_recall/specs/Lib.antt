@@ -1,0 +1,2 @@
+-- The pickups of the example register.
+pub mod Pickups
