@@ -1,7 +1,8 @@
-// Describes the register in parts.bsl: its rows and columns and, of each column, the width, how many
+// Describes the register in parts.bsl: its rows and columns, all widths and, of each column, the width, how many
 // slices it has and where they start. Printed numbers are decimal.
 use files::MOST_BYTES;
 use libc::STDOUT_FILENO;
+use register::MOST_COLUMNS;
 ghost use mathlib.Core.Path.{_≡_};
 ghost use Prim.Native.Nat.{_<_};
 ghost use Rattle.register.specs.Opening.{openedOf};
@@ -33,7 +34,28 @@ fn describe(file: &[u8]) {
     say(b"rows ", shape.rows);
     say(b" columns ", shape.columns);
     end_line();
+    measure(file);
     say_columns(file, shape);
+}
+
+// Prints a line with the width of every column, as the library answers them.
+fn measure(file: &[u8]) {
+    let mut widths = [0u8; MOST_COLUMNS];
+    let measured = register::widths(file, &mut widths);
+    let register::Measured::Columns(n) = measured else {
+        return;
+    };
+    if n <= MOST_COLUMNS {
+        say_widths(&widths[..n]);
+    }
+}
+
+fn say_widths(widths: &[u8]) {
+    io::write_all(STDOUT_FILENO, b"widths");
+    for column in 0..widths.len() {
+        say(b" ", widths[column] as usize);
+    }
+    end_line();
 }
 
 // Prints a line for each column of an opened file.
