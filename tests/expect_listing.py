@@ -10,6 +10,7 @@ usage: expect_listing.py FILE < TEXT
 import re
 import sys
 
+import usage
 from expect_scans import MEETS, counts
 
 MOST_FILE, MOST_TEXT, MOST_ROWS, MOST_COLUMNS, MOST_TESTS = 65536, 4096, 1048576, 32, 16
@@ -134,7 +135,8 @@ def listing(file, text):
 
 
 def main():
-    with open(sys.argv[1], 'rb') as file:
+    register, = usage.words('REGISTER')
+    with open(register, 'rb') as file:
         sys.stdout.buffer.write(listing(file.read(), sys.stdin.buffer.read()))
 
 

@@ -7,6 +7,8 @@ A row's standing depends on its code alone, so it is worked out once for each of
 """
 import operator
 
+import usage
+
 MEETS = {'<': operator.lt, '>=': operator.ge, '!=': operator.ne}
 OUT = {'<': 'g', '>=': 'l', '!=': ''}
 ROWS, WIDTH, SLICES, PAD = 1048576, 12, 2, 4
@@ -70,6 +72,7 @@ def refused(name, refusal):
 
 
 def main():
+    usage.words()
     for size in (8, 16, 32, 64):
         show(f'four tests, {size}', size, FOUR)
     show('a byte more, 64', 64, FOUR)

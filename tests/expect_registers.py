@@ -4,6 +4,7 @@
 It knows nothing of the product's code. The ten rows are the settled ones. A row of the other follows from its number: the
 crystal lot, the board issue, the test bench and the site, of 12, 5, 4 and 3 bits.
 """
+import usage
 from make_damaged import TEN_ROWS, TOP, good
 
 
@@ -21,6 +22,7 @@ def recall():
 
 
 def main():
+    usage.words()
     (TOP / 'crates' / 'make_p6' / 'stdout').write_bytes(TEN_ROWS)
     (TOP / 'crates' / 'make_recall' / 'stdout').write_bytes(recall())
 

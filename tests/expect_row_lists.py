@@ -5,6 +5,7 @@ It knows nothing of the product's code. A row is listed when its bit is set: bit
 Refused are, in this order: more rows than 1,048,576 (3); bytes that are not rows / 8 rounded up, or a bit set past the last row (16); an
 output with too few elements (10, with the number of rows to list as its need). A refused call changes nothing.
 """
+import usage
 MOST = 1048576
 UNTOUCHED = 77
 
@@ -57,6 +58,7 @@ def show_largest(name, room):
 
 
 def main():
+    usage.words()
     for byte in range(256):
         show(f'byte {byte}', 8, [byte], 9, space=9)
     for rows in range(17):

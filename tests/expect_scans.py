@@ -6,6 +6,8 @@ test while some row of the segment is equal by the bytes before it on that test 
 """
 import operator
 
+import usage
+
 MEETS = {'<': operator.lt, '<=': operator.le, '>': operator.gt, '>=': operator.ge, '=': operator.eq, '!=': operator.ne}
 OUT = {'<': 'g', '<=': 'g', '>': 'l', '>=': 'l', '=': 'lg', '!=': ''}
 TEN = [(100, 5), (511, 4), (512, 4), (513, 1), (2047, 5), (0, 5), (600, 0), (300, 5), (520, 5), (515, 5)]
@@ -71,6 +73,7 @@ def show(name, rows, widths, size, tests, count=None, room=None):
 
 
 def main():
+    usage.words()
     widths, below, five = [11, 3], (0, '<', 512), (1, '=', 5)
     show('both tests, 8', TEN, widths, 8, [below, five])
     show('exchanged, 8', TEN, widths, 8, [five, below])

@@ -7,6 +7,8 @@ is wrong. What each must answer stands in crates/damaged/stdout, which is writte
 """
 from pathlib import Path
 
+import usage
+
 TOP = Path(__file__).resolve().parent.parent
 DAMAGED = TOP / 'crates' / 'damaged' / 'data'
 PARTS = [TOP / 'crates' / name / 'data' / 'parts.bsl' for name in ('describe', 'list_parts')]
@@ -168,6 +170,7 @@ def large_files() -> dict[str, bytes]:
 
 
 def main() -> None:
+    usage.words()
     groups = [opening(), too_short_or_unmarked(), other_versions(), many_rows(), no_or_many_columns(),
               misplaced_directories(), unfit_columns(), wrong_bodies(), two_faults(), large_files()]
     DAMAGED.mkdir(parents=True, exist_ok=True)
