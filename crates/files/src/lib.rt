@@ -67,7 +67,8 @@ pub fn read_file(path: &[u8], buffer: &mut [u8]) -> Taken
     take_opened(fd, buffer)
 }
 
-// Reads what opening answered, a descriptor or a number below 0, and closes it.
+// Reads what opening answered, a descriptor or a number below 0, and closes it. That closing what was only read failed says
+// nothing of what was read.
 fn take_opened(fd: i32, buffer: &mut [u8]) -> Taken
     ensures taken { λ r. ⌜ TakenInto (now (buffer .entry)) (now (buffer .exit)) r ⌝ }
     ensures unopened { λ r. ⌜ (NotOpened fd → r ≡ Taken.Unreadable) ⌝ }

@@ -29,7 +29,8 @@ struct Piece {
     all: usize,
 }
 
-// Lends a byte more than is taken of each input, so that a larger one shows.
+// Lends a byte more than is taken of each input, so that a larger one shows. What a disk elsewhere could not take may show only
+// when the output is closed, so that is looked at too.
 fn main() {
     if 1 < os::arg_count() {
         say_usage();
@@ -41,6 +42,10 @@ fn main() {
     let printed = list_parts(&mut file, &mut text, &mut out);
     if printed.written < printed.all {
         say_cut_short(printed.written, printed.all);
+        return;
+    }
+    if libc::close(STDOUT_FILENO) < 0 {
+        os::fail(b"list_parts: the listing may not be whole, closing it failed");
     }
 }
 

@@ -34,5 +34,9 @@ fn main() {
     };
     if files::put_all(STDOUT_FILENO, &out) < bytes {
         os::fail(b"make_p6: the file is not whole");
+        return;
+    }
+    if libc::close(STDOUT_FILENO) < 0 {
+        os::fail(b"make_p6: the file may not be whole, closing it failed");
     }
 }

@@ -27,6 +27,10 @@ fn print_register(widths: &[u8], codes: &mut [u64], out: &mut [u8]) {
     };
     if files::put_all(STDOUT_FILENO, out) < bytes {
         os::fail(b"make_recall: the file is not whole");
+        return;
+    }
+    if libc::close(STDOUT_FILENO) < 0 {
+        os::fail(b"make_recall: the file may not be whole, closing it failed");
     }
 }
 
