@@ -6,7 +6,11 @@ use query::Query;
 use query::Test;
 use scan::Scanned;
 use writer::Written;
-ghost use Prim.Native.Nat.{_<_, _≤_};
+ghost use mathlib.Core.Path.{_≡_};
+ghost use mathlib.Core.List.{[], _∷_};
+ghost use Prim.Native.Nat.{ℕ, _*_, _%_, _<_, _≤_};
+ghost use lib.ListN.{getD, replicate};
+ghost use Rattle.query.specs.Tests.{testsOf};
 
 const ROOM: usize = 2048;
 
@@ -42,24 +46,32 @@ fn main() {
     show_refusals(&widths, &codes);
 }
 
-fn test(column: usize, comparison: Comparison) -> Test {
+fn test(column: usize, comparison: Comparison) -> Test
+    ensures { λ r. ⌜ r ≡ record { column = column; comparison = comparison } ⌝ }
+{
     Test { column, comparison }
 }
 
-fn none() -> Query {
+fn none() -> Query
+    ensures { λ r. ⌜ testsOf r ≡ [] ⌝ }
+{
     Query {
         count: 0,
         tests: [query::empty_slot(); 16],
     }
 }
 
-fn one(first: Test) -> Query {
+fn one(first: Test) -> Query
+    ensures { λ r. ⌜ testsOf r ≡ first ∷ [] ⌝ }
+{
     let mut tests = [query::empty_slot(); 16];
     tests[0] = first;
     Query { count: 1, tests }
 }
 
-fn two(first: Test, second: Test) -> Query {
+fn two(first: Test, second: Test) -> Query
+    ensures { λ r. ⌜ testsOf r ≡ first ∷ second ∷ [] ⌝ }
+{
     let mut tests = [query::empty_slot(); 16];
     tests[0] = first;
     tests[1] = second;
@@ -67,7 +79,9 @@ fn two(first: Test, second: Test) -> Query {
 }
 
 // The same test in every slot, and a count of so many.
-fn many(same: Test, count: usize) -> Query {
+fn many(same: Test, count: usize) -> Query
+    ensures { λ r. ⌜ (r .count ≡ count) × (r .tests ≡ replicate 16 same) ⌝ }
+{
     Query {
         count,
         tests: [same; 16],
@@ -247,7 +261,10 @@ fn show_short_segments() {
     }
 }
 
-fn seventy_codes() -> [u64; 70] {
+// Row r has the code 300 x r mod 512.
+fn seventy_codes() -> [u64; 70]
+    ensures { λ r. ⌜ ((row : ℕ) → row < 70 → getD r row 0 ≡ 300 * row % 512) ⌝ }
+{
     let mut codes = [0u64; 70];
     let mut code: u64 = 0;
     for row in 0..70 {
