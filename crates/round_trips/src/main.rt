@@ -5,7 +5,11 @@ use lookup::LookedUp;
 use register::Opened;
 use register::Refusal;
 use writer::Written;
-ghost use Prim.Native.Nat.{_≤_};
+ghost use mathlib.Core.Path.{_≡_};
+ghost use mathlib.Core.Bool.{true};
+ghost use Prim.Native.Nat.{_+_, _^_, _≤_};
+ghost use Rattle.basis.specs.Lists.{any};
+ghost use Rattle.round_trips.specs.Compared.{isTouched, HasCode};
 
 // Room for any file that is written here, filled with a byte that tells whether it was touched.
 const ROOM: usize = 256;
@@ -63,7 +67,9 @@ fn show_width(width: u8) {
 }
 
 // The largest code of a width of 1 to 32.
-fn largest_of(width: u8) -> u64 {
+fn largest_of(width: u8) -> u64
+    ensures { λ r. ⌜ (width ≤ 32 → r + 1 ≡ 2 ^ width) ⌝ }
+{
     let mut largest: u64 = 0;
     for _ in 0..width {
         if largest < 4294967296 {
@@ -112,7 +118,9 @@ fn say_compared(columns: usize, codes: &[u64], file: &[u8]) {
 }
 
 // Whether the code at an index, looked up twice in one list, is the one that was written there.
-fn same_code(at: usize, columns: usize, code: u64, file: &[u8]) -> bool {
+fn same_code(at: usize, columns: usize, code: u64, file: &[u8]) -> bool
+    ensures { λ r. ⌜ (r ≡ true → HasCode (now (file .entry)) columns at code) ⌝ }
+{
     if columns == 0 {
         return false;
     }
@@ -191,7 +199,10 @@ fn least(a: usize, b: usize) -> usize
     if a < b { a } else { b }
 }
 
-fn touched(space: &[u8]) -> bool {
+// Whether a byte is another than it was filled with.
+fn touched(space: &[u8]) -> bool
+    ensures { λ r. ⌜ r ≡ any isTouched (now (space .entry)) ⌝ }
+{
     for i in 0..space.len() {
         if space[i] != UNTOUCHED {
             return true;
