@@ -7,7 +7,13 @@ use query::Query;
 use query::Test;
 use register::MOST_ROWS;
 use scan::Scanned;
-ghost use Prim.Native.Nat.{_<_, _≤_};
+ghost use mathlib.Core.Path.{_≡_};
+ghost use mathlib.Core.List.{[], _∷_};
+ghost use Prim.Native.Nat.{_+_, _<_, _≤_};
+ghost use lib.ListN.{length, set};
+ghost use Rattle.basis.specs.Buffers.{laid};
+ghost use Rattle.query.specs.Tests.{testsOf};
+ghost use Rattle.most_rows.specs.Made.{bodyBytes, fileBytes, ifLong, HasCodes, ending, testOf};
 
 // A column of 12 bits is two slices; a directory of 8 bytes and a trailer of 16 follow them.
 const BODY: usize = 2 * MOST_ROWS;
@@ -39,7 +45,9 @@ fn show_all(file: &mut [u8], result: &mut [u8]) {
 
 // Row r has the code (r x 1103 + r / 7 x 331) mod 5000 mod 4096, of 12 bits: 8 in the first slice, and 4
 // above a pad of 4 in the second. Codes below 904 come about twice as often as the others.
-fn put_codes(file: &mut [u8]) {
+fn put_codes(file: &mut [u8])
+    ensures { λ _. ⌜ (fileBytes ≤ length (now (file .entry)) → HasCodes 1048576 (now (file .exit))) ⌝ }
+{
     if file.len() < FILE {
         return;
     }
@@ -52,7 +60,9 @@ fn put_codes(file: &mut [u8]) {
 
 // The directory and the trailer: a column of width 12 at offset 0; 1048576 rows, 1 column, version 1,
 // the directory at 2097152, and the mark.
-fn put_ending(file: &mut [u8]) {
+fn put_ending(file: &mut [u8])
+    ensures { λ _. ⌜ now (file .exit) ≡ ifLong (now (file .entry)) (laid (now (file .entry)) bodyBytes ending) ⌝ }
+{
     if file.len() < FILE {
         return;
     }
@@ -88,7 +98,9 @@ fn put_ending(file: &mut [u8]) {
 }
 
 // The trailer says 1048577 rows.
-fn put_one_row_more(file: &mut [u8]) {
+fn put_one_row_more(file: &mut [u8])
+    ensures { λ _. ⌜ now (file .exit) ≡ ifLong (now (file .entry)) (set (now (file .entry)) (bodyBytes + 8) 1) ⌝ }
+{
     if file.len() < FILE {
         return;
     }
@@ -113,7 +125,9 @@ fn show_rooms(file: &[u8], result: &mut [u8]) {
     show(b"a byte short, 64", file, 64, four(), result, NEED - 1);
 }
 
-fn none() -> Query {
+fn none() -> Query
+    ensures { λ r. ⌜ testsOf r ≡ [] ⌝ }
+{
     Query {
         count: 0,
         tests: [query::empty_slot(); 16],
@@ -121,7 +135,10 @@ fn none() -> Query {
 }
 
 // The codes of 100 to 999 but for 900; a row that could be 3000 by its first byte is ruled out by then.
-fn four() -> Query {
+fn four() -> Query
+    ensures { λ r. ⌜ testsOf r ≡ testOf (Comparison.AtLeast 100) ∷ testOf (Comparison.Less 1000) ∷ testOf (Comparison.Differs 900)
+        ∷ testOf (Comparison.Differs 3000) ∷ [] ⌝ }
+{
     let mut tests = [query::empty_slot(); 16];
     tests[0] = test(Comparison::AtLeast(100));
     tests[1] = test(Comparison::Less(1000));
@@ -130,7 +147,9 @@ fn four() -> Query {
     Query { count: 4, tests }
 }
 
-fn test(comparison: Comparison) -> Test {
+fn test(comparison: Comparison) -> Test
+    ensures { λ r. ⌜ r ≡ testOf comparison ⌝ }
+{
     Test {
         column: 0,
         comparison,

@@ -1,0 +1,2 @@
+-- The file that is made.
+pub mod Made
