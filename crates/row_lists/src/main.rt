@@ -3,7 +3,15 @@
 use libc::STDOUT_FILENO;
 use register::MOST_ROWS;
 use rows::Listed;
+ghost use mathlib.Core.Path.{_≡_};
 ghost use Prim.Native.Nat.{_≤_};
+ghost use lib.Dec.{eqb};
+ghost use lib.ListN.{length};
+ghost use Rattle.rows.specs.Answers.{shownOf};
+ghost use Rattle.rows.specs.RowList.{listedOf, leftIn};
+ghost use Rattle.row_lists.specs.Replies.{numbersOf, bitsByLast};
+ghost use Rattle.row_lists.specs.Digests.{countOf, oneMore, mixedIn, mixedAll};
+ghost use Rattle.row_lists.specs.Tallies.{afterCall, tallyBelow};
 
 // What each element of an output holds before a call.
 const UNTOUCHED: u32 = 77;
@@ -65,7 +73,9 @@ fn show_last_bytes(rows: usize) {
     end_line();
 }
 
-fn tally_of(rows: usize) -> Tally {
+fn tally_of(rows: usize) -> Tally
+    ensures { λ r. ⌜ r ≡ tallyBelow rows 256 ⌝ }
+{
     let mut tally = Tally {
         accepted: 0,
         refused: 0,
@@ -79,7 +89,9 @@ fn tally_of(rows: usize) -> Tally {
 }
 
 // One call more.
-fn tallied(tally: Tally, rows: usize, byte: u8) -> Tally {
+fn tallied(tally: Tally, rows: usize, byte: u8) -> Tally
+    ensures { λ r. ⌜ r ≡ afterCall tally rows byte ⌝ }
+{
     let mut out = [UNTOUCHED; 18];
     let reply = reply_of(list_by_last(rows, byte, &mut out));
     Tally {
@@ -91,7 +103,10 @@ fn tallied(tally: Tally, rows: usize, byte: u8) -> Tally {
 }
 
 // Lists by as many bytes as up to 16 rows have, of which the last is given.
-fn list_by_last(rows: usize, byte: u8, out: &mut [u32]) -> Listed {
+fn list_by_last(rows: usize, byte: u8, out: &mut [u32]) -> Listed
+    ensures answer { λ r. ⌜ r ≡ listedOf rows (bitsByLast rows byte) (length (now (out .entry))) ⌝ }
+    ensures left { λ r. ⌜ now (out .exit) ≡ leftIn rows (bitsByLast rows byte) (now (out .entry)) ⌝ }
+{
     if rows == 0 {
         let bits = [0u8; 0];
         return rows::list(rows, &bits, out);
@@ -104,7 +119,9 @@ fn list_by_last(rows: usize, byte: u8, out: &mut [u32]) -> Listed {
     rows::list(rows, &bits, out)
 }
 
-fn one_more(count: usize, is_so: bool) -> usize {
+fn one_more(count: usize, is_so: bool) -> usize
+    ensures { λ r. ⌜ r ≡ oneMore count «is_so» ⌝ }
+{
     if is_so {
         std::num::wrapping_add_usize(count, 1)
     } else {
@@ -112,14 +129,18 @@ fn one_more(count: usize, is_so: bool) -> usize {
     }
 }
 
-fn mixed_reply(digest: usize, reply: Reply) -> usize {
+fn mixed_reply(digest: usize, reply: Reply) -> usize
+    ensures { λ r. ⌜ r ≡ mixedAll digest (numbersOf reply) ⌝ }
+{
     let number = mixed(digest, reply.number);
     let place = mixed(number, reply.place);
     let need = mixed(place, reply.need);
     mixed(need, reply.listed)
 }
 
-fn mixed_elements(digest: usize, out: &[u32]) -> usize {
+fn mixed_elements(digest: usize, out: &[u32]) -> usize
+    ensures { λ r. ⌜ r ≡ mixedAll digest (now (out .entry)) ⌝ }
+{
     let mut all = digest;
     for i in 0..out.len() {
         all = mixed(all, wide(out[i]));
@@ -127,11 +148,15 @@ fn mixed_elements(digest: usize, out: &[u32]) -> usize {
     all
 }
 
-fn mixed(digest: usize, x: usize) -> usize {
+fn mixed(digest: usize, x: usize) -> usize
+    ensures { λ r. ⌜ r ≡ mixedIn digest x ⌝ }
+{
     (digest % 65521 * 31 + x % 65521) % 65521
 }
 
-fn wide(element: u32) -> usize {
+fn wide(element: u32) -> usize
+    ensures { λ r. ⌜ r ≡ element ⌝ }
+{
     element as usize
 }
 
@@ -213,7 +238,9 @@ fn say_places(out: &[u32]) {
     end_line();
 }
 
-fn in_place(out: &[u32]) -> usize {
+fn in_place(out: &[u32]) -> usize
+    ensures { λ r. ⌜ r ≡ countOf (λ i x. eqb x i) (now (out .entry)) ⌝ }
+{
     let mut many: usize = 0;
     for i in 0..out.len() {
         many = one_more(many, wide(out[i]) == i);
@@ -221,7 +248,9 @@ fn in_place(out: &[u32]) -> usize {
     many
 }
 
-fn untouched(out: &[u32]) -> usize {
+fn untouched(out: &[u32]) -> usize
+    ensures { λ r. ⌜ r ≡ countOf (λ i x. eqb x 77) (now (out .entry)) ⌝ }
+{
     let mut many: usize = 0;
     for i in 0..out.len() {
         many = one_more(many, out[i] == UNTOUCHED);
@@ -241,7 +270,9 @@ fn least(a: usize, b: usize) -> usize
     if a < b { a } else { b }
 }
 
-fn reply_of(listed: Listed) -> Reply {
+fn reply_of(listed: Listed) -> Reply
+    ensures { λ r. ⌜ numbersOf r ≡ shownOf listed ⌝ }
+{
     match listed {
         Listed::Rows(n) => Reply {
             number: 0,

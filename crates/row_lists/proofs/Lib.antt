@@ -1,0 +1,2 @@
+-- The laws of the counts.
+pub mod Counting

@@ -1,0 +1,4 @@
+-- What the calls come to.
+pub mod Replies
+pub mod Digests
+pub mod Tallies
