@@ -4,7 +4,7 @@ use libc::STDOUT_FILENO;
 use register::MOST_ROWS;
 use rows::Listed;
 ghost use mathlib.Core.Path.{_≡_};
-ghost use Prim.Native.Nat.{_≤_};
+ghost use Prim.Native.Nat.{_≤_, min};
 ghost use lib.Dec.{eqb};
 ghost use lib.ListN.{length};
 ghost use Rattle.rows.specs.Answers.{shownOf};
@@ -119,10 +119,10 @@ fn list_by_last(rows: usize, byte: u8, out: &mut [u32]) -> Listed
     rows::list(rows, &bits, out)
 }
 
-fn one_more(count: usize, is_so: bool) -> usize
-    ensures { λ r. ⌜ r ≡ oneMore count «is_so» ⌝ }
+fn one_more(count: usize, so: bool) -> usize
+    ensures { λ r. ⌜ r ≡ oneMore count so ⌝ }
 {
-    if is_so {
+    if so {
         std::num::wrapping_add_usize(count, 1)
     } else {
         count
@@ -259,13 +259,15 @@ fn untouched(out: &[u32]) -> usize
 }
 
 // Lists into the first elements of an output, as many as are lent.
-fn list_into(rows: usize, bits: &[u8], out: &mut [u32], room: usize) -> Listed {
+fn list_into(rows: usize, bits: &[u8], out: &mut [u32], room: usize) -> Listed
+    ensures { λ r. ⌜ r ≡ listedOf rows (now (bits .entry)) (min room (length (now (out .entry)))) ⌝ }
+{
     let kept = least(room, out.len());
     rows::list(rows, bits, &mut out[..kept])
 }
 
 fn least(a: usize, b: usize) -> usize
-    ensures { λ r. ⌜ r ≤ b ⌝ }
+    ensures { λ r. ⌜ (r ≤ b) × (r ≡ min a b) ⌝ }
 {
     if a < b { a } else { b }
 }
