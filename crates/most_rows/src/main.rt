@@ -10,7 +10,7 @@ use scan::Scanned;
 ghost use mathlib.Core.Path.{_≡_};
 ghost use mathlib.Core.List.{[], _∷_};
 ghost use Prim.Native.Nat.{_+_, _<_, _≤_};
-ghost use lib.ListN.{length, set};
+ghost use lib.ListN.{length, getD, set, replicate};
 ghost use Rattle.basis.specs.Buffers.{laid};
 ghost use Rattle.query.specs.Tests.{testsOf};
 ghost use Rattle.most_rows.specs.Made.{bodyBytes, fileBytes, ifLong, HasCodes, ending, testOf};
@@ -169,7 +169,9 @@ fn show(name: &[u8], file: &[u8], size: usize, query: Query, result: &mut [u8], 
     end_line();
 }
 
-fn fill(result: &mut [u8]) {
+fn fill(result: &mut [u8])
+    ensures { λ _. ⌜ now (result .exit) ≡ replicate (length (now (result .entry))) 77 ⌝ }
+{
     for i in 0..result.len() {
         result[i] = UNTOUCHED;
     }
@@ -182,7 +184,9 @@ fn least(a: usize, b: usize) -> usize
 }
 
 // A running sum over the bytes that a result needs, so that each byte and its place tell.
-fn digest_of(result: &[u8]) -> usize {
+fn digest_of(result: &[u8]) -> usize
+    ensures { λ r. ⌜ r < 65521 ⌝ }
+{
     if result.len() < NEED {
         return 0;
     }
@@ -194,7 +198,9 @@ fn digest_of(result: &[u8]) -> usize {
 }
 
 // The byte behind those that a result needs.
-fn byte_after(result: &[u8]) -> usize {
+fn byte_after(result: &[u8]) -> usize
+    ensures { λ r. ⌜ r ≡ getD (now (result .entry)) 131072 0 ⌝ }
+{
     if NEED < result.len() {
         wide(result[NEED])
     } else {
@@ -203,7 +209,7 @@ fn byte_after(result: &[u8]) -> usize {
 }
 
 fn wide(x: u8) -> usize
-    ensures { λ r. ⌜ r < 256 ⌝ }
+    ensures { λ r. ⌜ (r ≡ x) × (r < 256) ⌝ }
 {
     x as usize
 }
