@@ -257,13 +257,18 @@ fn say_test(test: Test) {
     io::print_decimal(STDOUT_FILENO, query::literal_of(comparison));
 }
 
-fn say_sign(comparison: Comparison) -> bool {
+fn say_sign(comparison: Comparison) {
     match comparison {
-        Comparison::Less(_) => io::write_all(STDOUT_FILENO, b" < "),
-        Comparison::AtMost(_) => io::write_all(STDOUT_FILENO, b" <= "),
-        Comparison::More(_) => io::write_all(STDOUT_FILENO, b" > "),
-        Comparison::AtLeast(_) => io::write_all(STDOUT_FILENO, b" >= "),
-        Comparison::Equal(_) => io::write_all(STDOUT_FILENO, b" = "),
-        Comparison::Differs(_) => io::write_all(STDOUT_FILENO, b" != "),
+        Comparison::Less(_) => say(b" < "),
+        Comparison::AtMost(_) => say(b" <= "),
+        Comparison::More(_) => say(b" > "),
+        Comparison::AtLeast(_) => say(b" >= "),
+        Comparison::Equal(_) => say(b" = "),
+        Comparison::Differs(_) => say(b" != "),
     }
+}
+
+// Prints words.
+fn say(words: &[u8]) {
+    io::write_all(STDOUT_FILENO, words);
 }
