@@ -156,11 +156,13 @@ def slow(waits, program):
 
 
 def held(reader):
-    """How many bytes a pipe holds once no more come."""
-    before, now = None, -1
-    while before != now:
+    """How many bytes a pipe holds once some have come and no more do; what it holds when the program's time is over, where none come."""
+    before, now = 0, 0
+    for _ in range(2 * SECONDS):
         time.sleep(0.3)
         before, now = now, struct.unpack('i', fcntl.ioctl(reader, termios.FIONREAD, bytes(4)))[0]
+        if now and before == now:
+            break
     return now
 
 
