@@ -1,9 +1,9 @@
 -- What the sign of the system's answer says: below 0 it failed. Assumes nothing.
 --   failed, came      a read's answer
 --   opened            what opening answered, where it is not below 0
-use Prim.Native.Nat.{ℕ, suc, min, _≤_}
+use Prim.Native.Nat.{ℕ, suc}
 use native.Mathlib.Omega.{arith}
-use mathlib.Core.Path.{_≡_, refl, sym, _∙_}
+use mathlib.Core.Path.{_≡_, refl}
 use mathlib.Core.Bool.{true, false}
 use lib.IntN.{ℤ, pos, negsuc}
 use lib.Signed.{ltZ}

@@ -6,7 +6,6 @@ use mathlib.Core.Path.{_≡_, refl}
 use lib.ListN.{length}
 use borrow.Author.Needs.{needs}
 use Rattle.listing.specs.Inputs.{unreadInputs}
-use Rattle.list_parts.specs.Printing.{PrintedOf}
 use Rattle.list_parts.proofs.Pieces.{Reached, length-told, piece-ends, goes-on, some-wanted}
 use Rattle.list_parts.proofs.print_listing.Statement.{statement}
 use Rattle.list_parts.proofs.print_listing.Tie as tie

@@ -10,7 +10,6 @@ use borrow.Author.Needs.{needs}
 use borrow.Author.Tests.{eqb-true}
 use lib.ListN.{getD}
 use Rattle.basis.specs.Refusals.{Line, firstLine, answerBy}
-use Rattle.basis.specs.Buffers.{laid}
 use Rattle.register.specs.Answers.{refusal}
 use Rattle.register.specs.Cells.{codeAt}
 use Rattle.lookup.specs.declared.LookedUp.{LookedUp}

@@ -1,7 +1,7 @@
 -- `row_lists::list_by_last` meets its contract: the bits are those by their last byte. Assumes nothing.
 use Prim.Native.Nat.{ℕ, _≤_, _<_}
 use mathlib.Core.Path.{_≡_, _∙_}
-use mathlib.Core.List.{List, [], _∷_}
+use mathlib.Core.List.{[], _∷_}
 use native.Mathlib.Omega.{arith}
 use lib.Dec.{eqb, leb}
 use Rattle.basis.proofs.Truth.{hit, missed}

@@ -1,9 +1,9 @@
 -- `row_lists::tally_of` meets its contract: the tally is that of the bytes passed. Assumes nothing.
-use Prim.Native.Nat.{ℕ, _-_, _≤_}
+use Prim.Native.Nat.{_-_, _≤_}
 use mathlib.Core.Path.{_≡_, refl, ap, _∙_}
 use native.Mathlib.Numerals.{add-one}
 use native.Mathlib.Omega.{arith}
-use Rattle.row_lists.specs.Tallies.{afterCall, tallyBelow}
+use Rattle.row_lists.specs.Tallies.{tallyBelow}
 use borrow.Author.Needs.{needs}
 use Rattle.row_lists.proofs.tally_of.Statement.{statement}
 use Rattle.row_lists.proofs.tally_of.Tie as tie
