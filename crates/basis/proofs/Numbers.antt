@@ -70,5 +70,5 @@ little-from bytes i h = rw (drop-cons bytes i 0 h)
 pub one-more-byte : (n number b : ℕ) → number < 256 ^ n → b < 256 → number * 256 + b < 256 ^ suc n
 one-more-byte n number b h byte = rw pow-suc (omega arith)
 
-pub four-bytes : (n number : ℕ) → n ≤ 4 → number < 256 ^ n → number < 2 ^ 32
+pub four-bytes : (n number : ℕ) → n ≤ 4 → number < 256 ^ n → number < 256 ^ 4
 four-bytes n number h fits = lt-of-lt-of-le fits (pow-le-pow-right {n = 256} (omega arith) h)

@@ -2,12 +2,12 @@
 --     pad-below-eight         the pad is less than a byte
 --     width-and-pad           width and pad fill the slices
 --     some-slice              a column has a slice
---     slices-at-most-four     and no more than four
---     earlier-slices          the slices before any one of them hold a number of 24 bits
+--     few-slices-of           and no more than the most
+--     earlier-slices          the slices before any one of them hold a number of one slice less than the most
 --     bytes-of-bits           a power of 2 to a multiple of 8 is a power of 256
 --     two-eighths             codes times pads are as many as the slices' numbers
 --     unfit-false, fit-width  a width that is not unfit is between 1 and the widest, and back
-use Prim.Native.Nat.{ℕ, zero, suc, _+_, _*_, _^_, _≤_, _<_}
+use Prim.Native.Nat.{ℕ, zero, suc, _+_, _-_, _*_, _^_, _≤_, _<_}
 use mathlib.Core.Path.{_≡_, refl, sym, ap, _∙_}
 use mathlib.Core.Bool.{false}
 use native.Mathlib.Nat.{mul-suc, pow-suc, pow-le-pow-right}
@@ -16,7 +16,8 @@ use lib.Dec.{ltb, eqb, lit<}
 use lib.Pow.{pow-add}
 use borrow.Author.Tests.{ltb-false, eqb-false, le-ltb, ne-eqb}
 use Rattle.basis.proofs.Truth.{neither}
-use Rattle.codes.specs.Width.{widest, unfitWidth, slicesOf, padOf}
+use Rattle.limits.specs.Limits.{widest, mostSlices}
+use Rattle.codes.specs.Width.{unfitWidth, slicesOf, padOf}
 
 -- a pad is less than a byte
 pub pad-below-eight : (width : ℕ) → padOf width < 8
@@ -33,16 +34,16 @@ pub some-slice : (width : ℕ) → 0 < width → 0 < slicesOf width
 unfolding slicesOf
 some-slice width some = omega arith
 
--- no column has more than four slices
-pub slices-at-most-four : (width : ℕ) → width ≤ widest → slicesOf width ≤ 4
+-- no column has more slices than the most
+pub few-slices-of : (width : ℕ) → width ≤ widest → slicesOf width ≤ mostSlices
 unfolding slicesOf
-slices-at-most-four width fits = omega arith
+few-slices-of width fits = omega arith
 
--- so the numbers of the slices before any one of them fit 24 bits
-pub earlier-slices : (width slice : ℕ) → width ≤ widest → slice < slicesOf width → 256 ^ slice ≤ 2 ^ 24
+-- so the numbers of the slices before any one of them fit one slice less
+pub earlier-slices : (width slice : ℕ) → width ≤ widest → slice < slicesOf width → 256 ^ slice ≤ 256 ^ (mostSlices - 1)
 earlier-slices width slice fits h =
-    let four = slices-at-most-four width fits in
-    pow-le-pow-right {n = 256} (lit< tt) {j = 3} (omega arith)
+    let few = few-slices-of width fits in
+    pow-le-pow-right {n = 256} (lit< tt) {j = mostSlices - 1} (omega arith)
 
 -- a power of 2 to a multiple of 8 is a power of 256
 pub bytes-of-bits : (n : ℕ) → 2 ^ (8 * n) ≡ 256 ^ n

@@ -2,10 +2,7 @@
 use Prim.Native.Nat.{ℕ, _+_, _-_, _*_, _/_, _^_}
 use mathlib.Core.Bool.{Bool, not, _||_}
 use lib.Dec.{ltb, eqb}
-
--- the widest column has 32 bits
-abbrev pub widest : ℕ
-widest = 32
+use Rattle.limits.specs.Limits.{widest}
 
 -- a width of 0, or over the widest, fits no column
 unfoldable pub unfitWidth : ℕ → Bool

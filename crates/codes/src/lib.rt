@@ -1,13 +1,12 @@
 // Codes and the bytes that hold them: what a column's width settles, cutting a code into bytes and
 // joining bytes into a code. Every other crate that looks at a slice goes through here.
+use limits::WIDEST;
 ghost use mathlib.Core.Path.{_≡_};
 ghost use Prim.Native.Nat.{_<_, _≤_, _^_};
 ghost use lib.ListN.{length};
-ghost use Rattle.codes.specs.Width.{widest, unfitWidth, slicesOf, padOf, tooLarge};
+ghost use Rattle.limits.specs.Limits.{widest};
+ghost use Rattle.codes.specs.Width.{unfitWidth, slicesOf, padOf, tooLarge};
 ghost use Rattle.codes.specs.Bytes.{byteOf, joined};
-
-// The widest column, in bits.
-const WIDEST: u8 = 32;
 
 // Whether a width fits no column.
 pub fn unfit_width(width: u8) -> bool

@@ -2,7 +2,7 @@
 // slices it has and where they start. Printed numbers are decimal.
 use files::MOST_BYTES;
 use libc::STDOUT_FILENO;
-use register::MOST_COLUMNS;
+use limits::MOST_COLUMNS;
 ghost use mathlib.Core.Path.{_≡_};
 ghost use Prim.Native.Nat.{_<_};
 ghost use Rattle.register.specs.Opening.{openedOf};

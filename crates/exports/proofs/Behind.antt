@@ -10,6 +10,7 @@ use mathlib.Core.Path.{_≡_, refl, sym, ap, _∙_}
 use mathlib.Core.List.{List, [], _∷_, _++_, map, map-map, flatten, append-nil, append-assoc}
 use lib.ListN.{length, getD, take, set, drop-of-length-le, length-append}
 use lib.Seq.{take-all}
+use Rattle.limits.specs.Limits.{mostTests}
 use Rattle.basis.specs.Lists.{below}
 use Rattle.basis.proofs.Buffers.{Filled, filled-store}
 use Rattle.basis.proofs.Lists.{joined-one-more, length-flatten, sum-of-same}
@@ -29,16 +30,16 @@ behind start at list filled long =
 by-number : {A : Type 0} (list : List A) (n : ℕ) (none : A) → length list ≡ n → map (λ i. getD list i none) (below n) ≡ list
 by-number list n none long = sym (taken-by-number list n none (omega arith)) ∙ take-all n list (omega arith)
 
-pub each-number : (list : List ℕ) → length list ≡ 16 → map (λ i. getD list i 0) (below 16) ≡ list
-each-number list long = by-number list 16 0 long
+pub each-number : (list : List ℕ) → length list ≡ mostTests → map (λ i. getD list i 0) (below mostTests) ≡ list
+each-number list long = by-number list mostTests 0 long
 
 -- the slot of test number t
 abbrev pub slotAt : List Test → ℕ → List ℕ
 slotAt tests t = slotReply (testAt tests t)
 
-pub each-slot : (tests : List Test) → length tests ≡ 16 → flatten (map (slotAt tests) (below 16)) ≡ flatten (map slotReply tests)
+pub each-slot : (tests : List Test) → length tests ≡ mostTests → flatten (map (slotAt tests) (below mostTests)) ≡ flatten (map slotReply tests)
 each-slot tests long =
-    ap flatten (sym (map-map slotReply (testAt tests) (below 16)) ∙ ap (map slotReply) (by-number tests 16 emptySlot long))
+    ap flatten (sym (map-map slotReply (testAt tests) (below mostTests)) ∙ ap (map slotReply) (by-number tests mostTests emptySlot long))
 
 -- slots before number t are three numbers each
 slots-long : (tests : List Test) (t : ℕ) → length (flatten (map (slotAt tests) (below t))) ≡ 3 * t

@@ -3,6 +3,9 @@
 // where there is one. A query passes as its text.
 mod replies;
 
+use limits::MOST_TESTS;
+use limits::READ_NUMBERS;
+use limits::SCAN_NUMBERS;
 use replies::listed_reply;
 use replies::looked_up_reply;
 use replies::measured_reply;
@@ -57,7 +60,7 @@ pub extern "C" fn bsl_write(
 
 // Reads a query's text. Values: size, count, then column, comparison and literal of each of 16 slots.
 #[no_mangle]
-pub extern "C" fn bsl_read(text: &[u8], reply: &mut [u64; 53])
+pub extern "C" fn bsl_read(text: &[u8], reply: &mut [u64; READ_NUMBERS])
     ensures { λ _. ⌜ ReadReplied (now (text .entry)) (now (reply .exit)) ⌝ }
 {
     let asked = text::read(text);
@@ -69,7 +72,12 @@ pub extern "C" fn bsl_read(text: &[u8], reply: &mut [u64; 53])
 
 // Scans a file by a query's text. Values: matches, total, then 16 counts.
 #[no_mangle]
-pub extern "C" fn bsl_scan(file: &[u8], text: &[u8], out: &mut [u8], reply: &mut [u64; 21])
+pub extern "C" fn bsl_scan(
+    file: &[u8],
+    text: &[u8],
+    out: &mut [u8],
+    reply: &mut [u64; SCAN_NUMBERS],
+)
     ensures { λ _. ⌜ ScanReplied (now (file .entry)) (now (text .entry)) (now (out .entry)) (now (out .exit)) (now (reply .exit)) ⌝ }
 {
     let asked = text::read(text);
@@ -78,7 +86,7 @@ pub extern "C" fn bsl_scan(file: &[u8], text: &[u8], out: &mut [u8], reply: &mut
         *reply = scanned_reply(Scanned {
             refusal,
             matches: 0,
-            counts: [0; 16],
+            counts: [0; MOST_TESTS],
             total: 0,
         });
         return;

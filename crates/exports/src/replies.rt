@@ -1,4 +1,7 @@
 // Replies as arrays of numbers: number, place and need of a refusal, then the values.
+use limits::MOST_TESTS;
+use limits::READ_NUMBERS;
+use limits::SCAN_NUMBERS;
 use lookup::LookedUp;
 use query::Comparison;
 use query::Test;
@@ -79,17 +82,22 @@ fn refused_reply(refusal: Refusal) -> [u64; 4]
     ]
 }
 
-pub fn read_reply(refusal: Refusal, size: usize, count: usize, tests: [Test; 16]) -> [u64; 53]
+pub fn read_reply(
+    refusal: Refusal,
+    size: usize,
+    count: usize,
+    tests: [Test; MOST_TESTS],
+) -> [u64; READ_NUMBERS]
     ensures { λ r. ⌜ r ≡ readReply (record { refusal = refusal; size = size; query = record { count = count; tests = tests } }) ⌝ }
 {
-    let mut reply = [0u64; 53];
+    let mut reply = [0u64; READ_NUMBERS];
     reply[0] = refusal.number as u64;
     reply[1] = refusal.place as u64;
     reply[2] = refusal.need as u64;
     reply[3] = size as u64;
     reply[4] = count as u64;
     let mut t = 0;
-    while t < 16 {
+    while t < MOST_TESTS {
         let test = tests[t];
         let comparison = test.comparison;
         reply[5 + 3 * t] = test.column as u64;
@@ -114,19 +122,19 @@ fn kind_of(comparison: Comparison) -> u64
     }
 }
 
-pub fn scanned_reply(scanned: Scanned) -> [u64; 21]
+pub fn scanned_reply(scanned: Scanned) -> [u64; SCAN_NUMBERS]
     ensures { λ r. ⌜ r ≡ scanReply scanned ⌝ }
 {
     let refusal = scanned.refusal;
     let counts = scanned.counts;
-    let mut reply = [0u64; 21];
+    let mut reply = [0u64; SCAN_NUMBERS];
     reply[0] = refusal.number as u64;
     reply[1] = refusal.place as u64;
     reply[2] = refusal.need as u64;
     reply[3] = scanned.matches as u64;
     reply[4] = scanned.total as u64;
     let mut t = 0;
-    while t < 16 {
+    while t < MOST_TESTS {
         reply[5 + t] = counts[t] as u64;
         t = t + 1;
     }

@@ -16,9 +16,10 @@ use lib.Arith.{digits-lt, digits-mod}
 use lib.ListN.{length}
 use borrow.Author.Tests.{ltb-true, not-false}
 use Rattle.basis.proofs.Numbers.{four-bytes}
-use Rattle.codes.specs.Width.{widest, slicesOf, tooLarge}
+use Rattle.limits.specs.Limits.{widest, mostSlices, fourBytes}
+use Rattle.codes.specs.Width.{slicesOf, tooLarge}
 use Rattle.codes.specs.Bytes.{storedOf}
-use Rattle.codes.proofs.Width.{unfit-false, slices-at-most-four}
+use Rattle.codes.proofs.Width.{unfit-false, few-slices-of}
 use Rattle.codes.proofs.RoundTrip.{stored-below}
 use Rattle.register.specs.Layout.{slicesBefore}
 use Rattle.register.proofs.Directory.{one-more-column}
@@ -27,7 +28,7 @@ use Rattle.judging.specs.Table.{widthOf, codeOf, FitWidths, FitCodes}
 pub record Counted (widths : List ℕ) (slices column : ℕ) : Type 0 where
   pub within : column ≤ length widths
   pub counted : slices ≡ slicesBefore (widthOf widths) column
-  pub few : slices ≤ 4 * column
+  pub few : slices ≤ mostSlices * column
 
 pub none-counted : (widths : List ℕ) → Counted widths 0 0
 unfolding slicesBefore
@@ -39,7 +40,7 @@ narrow widths fit column there = unfit-false (widthOf widths column) (fit .each 
 pub one-more-counted : (widths : List ℕ) → FitWidths widths → (slices column more : ℕ) → Counted widths slices column →
     column < length widths → more ≡ slicesOf (widthOf widths column) → Counted widths (slices + more) (column + 1)
 one-more-counted widths fit slices column more before there same =
-    let at-most = slices-at-most-four (widthOf widths column) (narrow widths fit column there) in
+    let at-most = few-slices-of (widthOf widths column) (narrow widths fit column there) in
     record {
       within = omega arith;
       counted = rw (add-one, one-more-column (widthOf widths) column) (omega (arith, before .counted));
@@ -61,8 +62,8 @@ module _ (rows : ℕ) (widths codes : List ℕ) (fit : FitCodes rows widths code
       let own = digits-mod row column-there in
       below-limit (widthOf widths column) _ (rw own at (fit .each (row * length widths + column) code-there))
 
-  pub stored-small : FitWidths widths → storedOf (widthOf widths column) (codeOf widths codes row column) < 2 ^ 32
+  pub stored-small : FitWidths widths → storedOf (widthOf widths column) (codeOf widths codes row column) < fourBytes
   stored-small fit-widths =
       let width = widthOf widths column in
-      let four = slices-at-most-four width (narrow widths fit-widths column column-there) in
+      let four = few-slices-of width (narrow widths fit-widths column column-there) in
       four-bytes (slicesOf width) _ four (stored-below width _ code-below)

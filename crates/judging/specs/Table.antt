@@ -6,7 +6,7 @@ use mathlib.Core.Bool.{false}
 use lib.ListN.{length, getD}
 use Rattle.basis.specs.Places.{firstPlace}
 use Rattle.codes.specs.Width.{unfitWidth, tooLarge}
-use Rattle.register.specs.Limits.{mostRows, mostColumns}
+use Rattle.limits.specs.Limits.{mostRows, mostColumns}
 
 -- the width of a column
 abbrev pub widthOf : List ℕ → ℕ → ℕ

@@ -1,10 +1,13 @@
 // Widths that fit, and codes held to the widths of their columns: many codes at once, and one by one
 // only where some are too large.
+use limits::LONGEST_PERIOD;
+use limits::MOST_COLUMNS;
 ghost use mathlib.Core.Path.{_≡_};
 ghost use mathlib.Core.Bool.{not};
 ghost use Prim.Native.Nat.{_+_, _*_, _^_, _≤_, _<_};
 ghost use lib.Dec.{ltb};
 ghost use lib.ListN.{length, getD};
+ghost use Rattle.limits.specs.Limits.{mostColumns, longestPeriod};
 ghost use Rattle.basis.specs.Places.{firstPlace};
 ghost use Rattle.judging.specs.Table.{widthOf, FitWidths, firstUnfit, firstTooLarge};
 ghost use Rattle.judging.specs.Judging.{Below, Covers, Raised, Holds};
@@ -44,11 +47,11 @@ pub fn first_too_large(rows: usize, widths: &[u8], codes: &[u64]) -> usize
 }
 
 // The limit of each column: 2 to the power of its width.
-fn limits_of(widths: &[u8]) -> [u64; 32]
+fn limits_of(widths: &[u8]) -> [u64; MOST_COLUMNS]
     requires { ⌜ FitWidths (now widths) ⌝ }
     ensures { λ r. ⌜ Holds (λ column. 2 ^ widthOf (now (widths .entry)) column) (length (now (widths .entry))) r ⌝ }
 {
-    let mut limits = [0u64; 32];
+    let mut limits = [0u64; MOST_COLUMNS];
     let mut column = 0;
     while column < widths.len() {
         let width = widths[column];
@@ -61,8 +64,8 @@ fn limits_of(widths: &[u8]) -> [u64; 32]
 // How many rows in front are known to be below their limits: all whole eights of them, or none. The
 // codes that stand alike in every eight rows make, joined bit by bit, a number at least as large as
 // each of them.
-fn rows_below(limits: &[u64; 32], columns: usize, rows: usize, codes: &[u64]) -> usize
-    requires { ⌜ (0 < columns) × (columns ≤ 32) × (length (now codes) ≡ rows * columns) ⌝ }
+fn rows_below(limits: &[u64; MOST_COLUMNS], columns: usize, rows: usize, codes: &[u64]) -> usize
+    requires { ⌜ (0 < columns) × (columns ≤ mostColumns) × (length (now codes) ≡ rows * columns) ⌝ }
     ensures { λ r. ⌜ (r ≤ rows) × Below (now (limits .entry)) (now (codes .entry)) columns r ⌝ }
 {
     let period = 8 * columns;
@@ -79,11 +82,11 @@ fn rows_below(limits: &[u64; 32], columns: usize, rows: usize, codes: &[u64]) ->
 }
 
 // The codes of so many periods, joined place by place.
-fn joined_codes(codes: &[u64], period: usize, periods: usize) -> [u64; 256]
-    requires { ⌜ (period ≤ 256) × (periods * period ≤ length (now codes)) ⌝ }
+fn joined_codes(codes: &[u64], period: usize, periods: usize) -> [u64; LONGEST_PERIOD]
+    requires { ⌜ (period ≤ longestPeriod) × (periods * period ≤ length (now codes)) ⌝ }
     ensures { λ r. ⌜ Covers (now (codes .entry)) period periods r ⌝ }
 {
-    let mut joined = [0u64; 256];
+    let mut joined = [0u64; LONGEST_PERIOD];
     let mut i = 0;
     while i < periods {
         join_codes(codes, i * period, period, &mut joined);
@@ -93,8 +96,8 @@ fn joined_codes(codes: &[u64], period: usize, periods: usize) -> [u64; 256]
 }
 
 // Joins n codes from a place on, each to what is held for it.
-fn join_codes(codes: &[u64], at: usize, n: usize, joined: &mut [u64; 256])
-    requires { ⌜ (n ≤ 256) × (at + n ≤ length (now codes)) × (length (now joined) ≡ 256) ⌝ }
+fn join_codes(codes: &[u64], at: usize, n: usize, joined: &mut [u64; LONGEST_PERIOD])
+    requires { ⌜ (n ≤ longestPeriod) × (at + n ≤ length (now codes)) × (length (now joined) ≡ longestPeriod) ⌝ }
     ensures { λ _. ⌜ Raised (now (codes .entry)) at n (now (joined .entry)) (now (joined .exit)) ⌝ }
 {
     let mut k = 0;
@@ -106,8 +109,8 @@ fn join_codes(codes: &[u64], at: usize, n: usize, joined: &mut [u64; 256])
 
 // The lowest column whose code, in the row that starts at a place, is not below its limit, or the
 // number of columns.
-fn first_at_limit(limits: &[u64; 32], columns: usize, codes: &[u64], at: usize) -> usize
-    requires { ⌜ (columns ≤ 32) × (at + columns ≤ length (now codes)) ⌝ }
+fn first_at_limit(limits: &[u64; MOST_COLUMNS], columns: usize, codes: &[u64], at: usize) -> usize
+    requires { ⌜ (columns ≤ mostColumns) × (at + columns ≤ length (now codes)) ⌝ }
     ensures { λ r. ⌜ r ≡ firstPlace (λ column. not (ltb (getD (now (codes .entry)) (at + column) 0)
         (getD (now (limits .entry)) column 0))) columns ⌝ }
 {

@@ -10,7 +10,7 @@ use mathlib.Core.List.{List}
 use Rattle.codes.specs.Width.{slicesOf}
 use Rattle.register.specs.declared.Shape.{Shape}
 use Rattle.register.specs.declared.Opened.the-variants.{Register}
-use Rattle.register.specs.Limits.{mostRows, mostColumns}
+use Rattle.limits.specs.Limits.{mostRows, mostColumns, mostSlices}
 use Rattle.register.specs.File.{rowsIn, columnsIn, widthIn}
 use Rattle.register.specs.Opening.{openedOf}
 use Rattle.register.proofs.Fit.{opened-is-fit}
@@ -29,9 +29,9 @@ module _ (file : List ℕ) (shape : Shape) (opened : openedOf file ≡ Register 
   pub few-columns : shape .columns ≤ mostColumns
   few-columns = omega (arith, same-columns, opened-is-fit file shape opened .0 .few-columns)
 
-  few-slices : (column : ℕ) → column < shape .columns → slicesOf (widthIn file column) ≤ 4
+  few-slices : (column : ℕ) → column < shape .columns → slicesOf (widthIn file column) ≤ mostSlices
   unfolding slicesOf
   few-slices column there = omega (arith, narrow file shape opened column there)
 
-  pub few-bytes : (column : ℕ) → column < shape .columns → shape .rows * slicesOf (widthIn file column) ≤ mostRows * 4
+  pub few-bytes : (column : ℕ) → column < shape .columns → shape .rows * slicesOf (widthIn file column) ≤ mostRows * mostSlices
   few-bytes column there = mul-le-mul few-rows (few-slices column there)

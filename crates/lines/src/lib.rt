@@ -7,8 +7,9 @@ use pieces::put_word;
 use register::Refusal;
 use register::Shape;
 ghost use mathlib.Core.Path.{_≡_};
-ghost use Prim.Native.Nat.{_+_, _^_, _≤_, _<_};
+ghost use Prim.Native.Nat.{_+_, _*_, _^_, _≤_, _<_};
 ghost use mathlib.Core.List.{_∷_};
+ghost use Rattle.limits.specs.Limits.{mostColumns, longestCell, longestLine};
 ghost use Rattle.register.specs.declared.Opened.the-variants.{Register};
 ghost use Rattle.register.specs.Opening.{openedOf};
 ghost use Rattle.register.specs.Cells.{codeAt};
@@ -30,7 +31,7 @@ pub fn refused_line(out: &mut [u8], from: usize, refusal: Refusal) -> usize
 
 // The first line: the rows, and how many match.
 pub fn head_line(out: &mut [u8], from: usize, rows: usize, matches: usize) -> usize
-    ensures { λ r. ⌜ Wrote from 0 (headLine rows matches) (now (out .entry)) (now (out .exit)) r × (r ≤ 1000) ⌝ }
+    ensures { λ r. ⌜ Wrote from 0 (headLine rows matches) (now (out .entry)) (now (out .exit)) r × (r ≤ longestLine) ⌝ }
 {
     let next = put_word(out, from, 0, b"rows ");
     let next = put_decimal(out, from, next, rows as u64);
@@ -49,7 +50,7 @@ pub fn test_line(
     most: usize,
 ) -> usize
     requires { ⌜ at < 2 ^ 60 ⌝ }
-    ensures { λ r. ⌜ Wrote from at (testLine number count most) (now (out .entry)) (now (out .exit)) r × (r ≤ at + 1000) ⌝ }
+    ensures { λ r. ⌜ Wrote from at (testLine number count most) (now (out .entry)) (now (out .exit)) r × (r ≤ at + longestLine) ⌝ }
 {
     let next = put_word(out, from, at, b"test ");
     let next = put_decimal(out, from, next, number as u64);
@@ -70,7 +71,7 @@ pub fn row_line(
     row: usize,
 ) -> usize
     requires { ⌜ (at < 2 ^ 60) × (openedOf (now file) ≡ Register shape) × (row < shape .rows) ⌝ }
-    ensures { λ r. ⌜ Wrote from at (rowLine (now (file .entry)) row) (now (out .entry)) (now (out .exit)) r × (r ≤ at + 1000) ⌝ }
+    ensures { λ r. ⌜ Wrote from at (rowLine (now (file .entry)) row) (now (out .entry)) (now (out .exit)) r × (r ≤ at + longestLine) ⌝ }
 {
     let next = put_word(out, from, at, b"row ");
     let next = put_decimal(out, from, next, row as u64);
@@ -82,7 +83,7 @@ pub fn row_line(
 // A row's code in every column, a space before each.
 fn put_cells(out: &mut [u8], from: usize, at: usize, file: &[u8], shape: Shape, row: usize) -> usize
     requires { ⌜ (at < 2 ^ 60 + 100) × (openedOf (now file) ≡ Register shape) × (row < shape .rows) ⌝ }
-    ensures { λ r. ⌜ Wrote from at (cells (now (file .entry)) row (shape .columns)) (now (out .entry)) (now (out .exit)) r × (r ≤ at + 700) ⌝ }
+    ensures { λ r. ⌜ Wrote from at (cells (now (file .entry)) row (shape .columns)) (now (out .entry)) (now (out .exit)) r × (r ≤ at + mostColumns * longestCell) ⌝ }
 {
     let columns = shape.columns;
     let mut next = at;
@@ -95,8 +96,8 @@ fn put_cells(out: &mut [u8], from: usize, at: usize, file: &[u8], shape: Shape, 
 }
 
 fn put_cell(out: &mut [u8], from: usize, at: usize, code: u64) -> usize
-    requires { ⌜ at < 2 ^ 60 + 1000 ⌝ }
-    ensures { λ r. ⌜ Wrote from at (space ∷ decimal code) (now (out .entry)) (now (out .exit)) r × (r ≤ at + 21) ⌝ }
+    requires { ⌜ at < 2 ^ 60 + longestLine ⌝ }
+    ensures { λ r. ⌜ Wrote from at (space ∷ decimal code) (now (out .entry)) (now (out .exit)) r × (r ≤ at + longestCell) ⌝ }
 {
     let next = put(out, from, at, b' ');
     put_decimal(out, from, next, code)

@@ -4,6 +4,7 @@
 ghost use Prim.Native.Nat.{_+_, _^_, _≤_, _<_};
 ghost use mathlib.Core.List.{[], _∷_};
 ghost use lib.ListN.{length};
+ghost use Rattle.limits.specs.Limits.{longestDecimal};
 ghost use Rattle.text.specs.Decimals.{digit, decimal};
 ghost use Rattle.lines.specs.Pieces.{Wrote};
 
@@ -40,7 +41,7 @@ pub fn put_word(out: &mut [u8], from: usize, at: usize, word: &[u8]) -> usize
 // A number in decimal: that of its tenth, where it has one, and then its last digit.
 pub fn put_decimal(out: &mut [u8], from: usize, at: usize, number: u64) -> usize
     requires { ⌜ at < 2 ^ 61 ⌝ }
-    ensures { λ r. ⌜ Wrote from at (decimal number) (now (out .entry)) (now (out .exit)) r × (r ≤ at + 20) ⌝ }
+    ensures { λ r. ⌜ Wrote from at (decimal number) (now (out .entry)) (now (out .exit)) r × (r ≤ at + longestDecimal) ⌝ }
 {
     if number < 10 {
         return put_digit(out, from, at, number);

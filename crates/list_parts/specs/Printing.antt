@@ -8,7 +8,8 @@ use lib.ListN.{length}
 use Rattle.files.specs.declared.Taken.{Taken}
 use Rattle.files.specs.declared.Taken.the-variants.{Unreadable}
 use Rattle.files.specs.Taking.{numberOf, countOf, TakenInto}
-use Rattle.listing.specs.Inputs.{mostFile, unreadInput, ListedRead, PrintLength}
+use Rattle.limits.specs.Limits.{mostFile}
+use Rattle.listing.specs.Inputs.{unreadInput, ListedRead, PrintLength}
 use Rattle.list_parts.specs.declared.Piece.{Piece}
 use Rattle.list_parts.specs.declared.Printed.{Printed}
 

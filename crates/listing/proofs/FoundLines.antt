@@ -14,7 +14,8 @@ use Rattle.basis.proofs.Runs.{in-below}
 use Rattle.basis.proofs.Those.{those-same}
 use Rattle.register.specs.File.{rowsIn, columnsIn}
 use Rattle.query.specs.declared.Query.{Query}
-use Rattle.query.specs.Tests.{mostTests, emptySlot, testsOf}
+use Rattle.limits.specs.Limits.{mostTests}
+use Rattle.query.specs.Tests.{emptySlot, testsOf}
 use Rattle.query.proofs.Slots.{length-filled}
 use Rattle.text.specs.declared.Asked.{Asked}
 use Rattle.text.specs.Reading.{Reads, read, too-many, no-segment, no-test}

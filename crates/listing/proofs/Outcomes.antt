@@ -13,7 +13,7 @@ use borrow.Author.Tests.{eq-eqb, ne-eqb}
 use lib.ListN.{length}
 use Rattle.register.specs.declared.Refusal.{Refusal}
 use Rattle.register.specs.declared.Opened.the-variants.{Refused}
-use Rattle.register.specs.Limits.{mostRows}
+use Rattle.limits.specs.Limits.{mostRows}
 use Rattle.register.specs.File.{rowsIn}
 use Rattle.register.specs.Opening.{openedOf}
 use Rattle.register.proofs.PassedOn.{refusal-passed-on}

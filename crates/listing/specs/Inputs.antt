@@ -5,19 +5,13 @@ use mathlib.Core.List.{List}
 use mathlib.Core.Bool.{Bool, true, false, not, _||_}
 use lib.Dec.{ltb}
 use lib.ListN.{length}
+use Rattle.limits.specs.Limits.{mostFile, mostText}
 use Rattle.register.specs.declared.Refusal.{Refusal}
 use Rattle.text.specs.declared.Asked.{Asked}
 use Rattle.text.specs.Reading.{Reads}
 use Rattle.lines.specs.Pieces.{PieceWritten}
 use Rattle.lines.specs.Lines.{refusedLine}
 use Rattle.listing.specs.Listing.{listingOf, Listed}
-
--- a file of more than 65,536 bytes is not taken, nor a text of more than 4,096
-abbrev pub mostFile : ℕ
-mostFile = 65536
-
-abbrev mostText : ℕ
-mostText = 4096
 
 -- an input that could not be read, or is over its limit
 abbrev pub unreadInput : Bool → ℕ → ℕ → Bool

@@ -7,7 +7,7 @@ use lib.ListN.{getD}
 use Rattle.basis.specs.Lists.{those, below}
 use Rattle.codes.specs.Width.{slicesOf}
 use Rattle.register.specs.declared.Refusal.{Refusal}
-use Rattle.register.specs.Limits.{mostRows}
+use Rattle.limits.specs.Limits.{mostRows}
 use Rattle.register.specs.File.{rowsIn, widthIn}
 use Rattle.query.specs.declared.Query.{Query}
 use Rattle.query.specs.declared.Test.{Test}

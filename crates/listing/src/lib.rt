@@ -1,5 +1,9 @@
 // Lists what a query finds in a register: how many rows match, how many bytes each test needed, and
 // each row found with its codes; or why the query is refused.
+use limits::MOST_BITS;
+use limits::MOST_FILE;
+use limits::MOST_TESTS;
+use limits::MOST_TEXT;
 use lines::head_line;
 use lines::refused_line;
 use lines::row_line;
@@ -9,8 +13,9 @@ use register::Opened;
 use register::Refusal;
 use register::Shape;
 ghost use mathlib.Core.Path.{_≡_};
-ghost use Prim.Native.Nat.{_+_, _*_, _^_, _≤_, _<_};
+ghost use Prim.Native.Nat.{suc, _+_, _*_, _^_, _≤_, _<_};
 ghost use lib.ListN.{length};
+ghost use Rattle.limits.specs.Limits.{mostTests, longestLine};
 ghost use Rattle.register.specs.declared.Opened.the-variants.{Register};
 ghost use Rattle.register.specs.Opening.{openedOf};
 ghost use Rattle.rows.specs.RowList.{marked, markedBelow};
@@ -20,11 +25,6 @@ ghost use Rattle.lines.specs.Pieces.{Wrote};
 ghost use Rattle.listing.specs.Listing.{Listed, testLines, rowLines};
 ghost use Rattle.listing.specs.Inputs.{unreadInput, unreadInputs, refusal18, ListedRead};
 ghost use Rattle.listing.specs.Steps.{ColumnsBelow};
-
-// Bytes that the program takes of a file, and of a query's text.
-pub const MOST_FILE: usize = 65536;
-
-pub const MOST_TEXT: usize = 4096;
 
 // Writes a piece of what the program prints, of a file that was taken or not and a text that was given
 // or not: refused by 18 where one was not or has too many bytes, and else the listing of the two.
@@ -81,7 +81,7 @@ pub fn write(file: &[u8], text: &[u8], from: usize, out: &mut [u8]) -> usize
         return refused_line(out, from, register::refusal_of(opened));
     };
     let query = asked.query;
-    let mut bits = [0u8; 131072];
+    let mut bits = [0u8; MOST_BITS];
     let scanned = scan::scan(file, asked.size, query, &mut bits);
     let refusal = scanned.refusal;
     if refusal.number != 0 {
@@ -101,12 +101,12 @@ fn test_lines(
     at: usize,
     file: &[u8],
     shape: Shape,
-    tests: [Test; 16],
+    tests: [Test; MOST_TESTS],
     count: usize,
-    counts: [usize; 16],
+    counts: [usize; MOST_TESTS],
 ) -> usize
-    requires { ⌜ (at ≤ 1000) × (openedOf (now file) ≡ Register shape) × (count ≤ 16) × ColumnsBelow (shape .columns) tests count ⌝ }
-    ensures { λ r. ⌜ Wrote from at (testLines (now (file .entry)) tests counts count) (now (out .entry)) (now (out .exit)) r × (r ≤ 17000) ⌝ }
+    requires { ⌜ (at ≤ longestLine) × (openedOf (now file) ≡ Register shape) × (count ≤ mostTests) × ColumnsBelow (shape .columns) tests count ⌝ }
+    ensures { λ r. ⌜ Wrote from at (testLines (now (file .entry)) tests counts count) (now (out .entry)) (now (out .exit)) r × (r ≤ longestLine * suc mostTests) ⌝ }
 {
     let rows = shape.rows;
     let mut next = at;
@@ -137,7 +137,7 @@ fn row_lines(
     shape: Shape,
     bits: &[u8],
 ) -> usize
-    requires { ⌜ (at ≤ 17000) × (openedOf (now file) ≡ Register shape) ⌝ }
+    requires { ⌜ (at ≤ longestLine * suc mostTests) × (openedOf (now file) ≡ Register shape) ⌝ }
     ensures { λ r. ⌜ Wrote from at (rowLines (now (file .entry)) (markedBelow (shape .rows) (now (bits .entry)))) (now (out .entry)) (now (out .exit)) r ⌝ }
 {
     let rows = shape.rows;
@@ -161,7 +161,7 @@ fn put_row(
     row: usize,
 ) -> usize
     requires { ⌜ (at < 2 ^ 60) × (openedOf (now file) ≡ Register shape) × (row < shape .rows) ⌝ }
-    ensures { λ r. ⌜ Wrote from at (rowLines (now (file .entry)) (those (marked (now (bits .entry))) (row ∷ []))) (now (out .entry)) (now (out .exit)) r × (r ≤ at + 1000) ⌝ }
+    ensures { λ r. ⌜ Wrote from at (rowLines (now (file .entry)) (those (marked (now (bits .entry))) (row ∷ []))) (now (out .entry)) (now (out .exit)) r × (r ≤ at + longestLine) ⌝ }
 {
     if rows::is_marked(bits, row) {
         return row_line(out, from, at, file, shape, row);

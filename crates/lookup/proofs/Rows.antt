@@ -6,7 +6,7 @@ use Prim.Native.Nat.{ℕ, _≤_, _<_}
 use native.Mathlib.Omega.{arith}
 use mathlib.Core.Path.{_≡_}
 use mathlib.Core.List.{List}
-use Rattle.codes.specs.Width.{widest}
+use Rattle.limits.specs.Limits.{widest}
 use Rattle.codes.specs.Bytes.{joined}
 use Rattle.register.specs.declared.Shape.{Shape}
 use Rattle.register.specs.declared.Opened.the-variants.{Register}

@@ -8,7 +8,7 @@ ghost use lib.ListN.{length, getD};
 ghost use Rattle.basis.specs.Buffers.{laid};
 ghost use Rattle.register.specs.declared.Opened.the-variants.{Register};
 ghost use Rattle.register.specs.Opening.{openedOf};
-ghost use Rattle.codes.specs.Width.{widest};
+ghost use Rattle.limits.specs.Limits.{widest};
 ghost use Rattle.codes.specs.Bytes.{joined};
 ghost use Rattle.lookup.specs.Steps.{AllBelow, NoneAbove, RowWithin, place, gathered};
 ghost use Rattle.lookup.specs.Answers.{refusedWith, shownOf};

@@ -2,10 +2,10 @@
 // of a refusal, or matches, total and counts; then a digest of the result and the byte after it. What it
 // must print is made by tests/expect_most_rows.py, which goes row by row through the codes.
 use libc::STDOUT_FILENO;
+use limits::MOST_ROWS;
 use query::Comparison;
 use query::Query;
 use query::Test;
-use register::MOST_ROWS;
 use scan::Scanned;
 ghost use mathlib.Core.Path.{_≡_};
 ghost use mathlib.Core.List.{[], _∷_};

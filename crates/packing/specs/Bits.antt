@@ -5,6 +5,7 @@ use mathlib.Core.List.{List, map}
 use mathlib.Core.Bool.{Bool, _&&_, cond}
 use lib.Dec.{ltb}
 use lib.ListN.{length, getD}
+use Rattle.limits.specs.Limits.{longestSegment}
 use Rattle.basis.specs.Lists.{sum, below}
 
 -- rows/8 rounded up
@@ -25,7 +26,7 @@ bitIn bytes i = getD bytes (i / 8) 0 / 2 ^ (i % 8) % 2
 
 -- 1 for rows found among the first n places, 0 for those not found and for all places after
 pub record FoundRows (places : List ℕ) (n : ℕ) : Type 0 where
-  pub few : n ≤ 64
-  pub all : length places ≡ 64
+  pub few : n ≤ longestSegment
+  pub all : length places ≡ longestSegment
   pub each : (k : ℕ) → getD places k 0 ≤ 1
   pub rest : (k : ℕ) → n ≤ k → getD places k 0 ≡ 0

@@ -4,14 +4,11 @@ use mathlib.Core.List.{List, _++_}
 use mathlib.Core.Bool.{Bool, not}
 use lib.Dec.{ltb, leb, eqb}
 use lib.ListN.{take, getD, replicate}
+use Rattle.limits.specs.Limits.{mostTests}
 use Rattle.query.specs.declared.Comparison.{Comparison}
 use Rattle.query.specs.declared.Comparison.the-variants.{Less, AtMost, More, AtLeast, Equal, Differs}
 use Rattle.query.specs.declared.Test.{Test}
 use Rattle.query.specs.declared.Query.{Query}
-
--- a query has 0 to 16 tests
-abbrev pub mostTests : ℕ
-mostTests = 16
 
 -- the literal with which a code is compared
 abbrev pub literalOf : Comparison → ℕ

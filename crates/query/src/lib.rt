@@ -1,9 +1,7 @@
 // What is asked of a register: tests joined by "and".
+use limits::MOST_TESTS;
 ghost use mathlib.Core.Path.{_≡_};
 ghost use Rattle.query.specs.Tests.{literalOf, emptySlot};
-
-// The most tests that a query may have.
-pub const MOST_TESTS: usize = 16;
 
 // A comparison of a code with its literal: <, <=, >, >=, =, !=.
 pub enum Comparison {
@@ -24,7 +22,7 @@ pub struct Test {
 // The first `count` slots hold the tests; the slots after them mean nothing.
 pub struct Query {
     pub count: usize,
-    pub tests: [Test; 16],
+    pub tests: [Test; MOST_TESTS],
 }
 
 // The literal that a comparison carries.

@@ -15,17 +15,17 @@ use lib.ListN.{length, take, drop, length-take, length-drop}
 use borrow.Author.Tests.{eqb-true, not-false}
 use Rattle.basis.proofs.Truth.{neither}
 use Rattle.basis.proofs.Lists.{sum-one-more}
-use Rattle.codes.specs.Width.{widest, unfitWidth, slicesOf}
+use Rattle.codes.specs.Width.{unfitWidth, slicesOf}
 use Rattle.codes.proofs.Width.{unfit-false}
-use Rattle.register.specs.Limits.{mostRows, mostColumns}
+use Rattle.limits.specs.Limits.{mostRows, mostColumns, widest, mostSlices, entryBytes}
 use Rattle.register.specs.Layout.{slicesBefore, bytesBefore}
 use Rattle.register.specs.File.{rowsIn, directoryIn, entryIn, widthOf, spareOf, offsetOf, widthIn, offsetIn, unfitEntry, unfitColumn}
 
-pub entry-cut : (file : List ℕ) (from column : ℕ) → from ≡ directoryIn file + 8 * column → from + 8 ≤ length file →
-    (take (from + 8 - from) (drop from file) ≡ entryIn file column) × (length (take (from + 8 - from) (drop from file)) ≡ 8)
+pub entry-cut : (file : List ℕ) (from column : ℕ) → from ≡ directoryIn file + entryBytes * column → from + entryBytes ≤ length file →
+    (take (from + entryBytes - from) (drop from file) ≡ entryIn file column) × (length (take (from + entryBytes - from) (drop from file)) ≡ entryBytes)
 unfolding entryIn
 entry-cut file from column at fits =
-    let eight : from + 8 - from ≡ 8 = omega arith in
+    let eight : from + entryBytes - from ≡ entryBytes = omega arith in
     (rw (eight, at), rw (eight, length-take, length-drop) (omega arith))
 
 pub judged-by-entry : (file entry : List ℕ) (rows slices column : ℕ) → entry ≡ entryIn file column → rows ≡ rowsIn file →
@@ -54,5 +54,5 @@ pub one-more-column : (width : ℕ → ℕ) (column : ℕ) →
 unfolding slicesBefore
 one-more-column width column = sum-one-more (λ earlier. slicesOf (width earlier)) column
 
-pub few-bytes : (rows slices column : ℕ) → rows ≤ mostRows → slices ≤ 4 * column → column ≤ mostColumns → rows * slices ≤ 2 ^ 27
-few-bytes rows slices column few-rows few few-columns = mul-le-mul {n₂ = mostRows} {m₂ = 128} few-rows (omega arith)
+pub few-bytes : (rows slices column : ℕ) → rows ≤ mostRows → slices ≤ mostSlices * column → column ≤ mostColumns → rows * slices ≤ mostRows * (mostSlices * mostColumns)
+few-bytes rows slices column few-rows few few-columns = mul-le-mul {n₂ = mostRows} {m₂ = mostSlices * mostColumns} few-rows (omega arith)

@@ -19,7 +19,7 @@ use Rattle.basis.proofs.Refusals.{none-when-accepted, each-fails}
 use Rattle.basis.proofs.Places.{none-before-first, first-is-none}
 use Rattle.register.specs.declared.Shape.{Shape}
 use Rattle.register.specs.declared.Opened.the-variants.{Register, Refused}
-use Rattle.register.specs.Limits.{mostRows, mostColumns}
+use Rattle.limits.specs.Limits.{mostRows, mostColumns, entryBytes, trailerBytes}
 use Rattle.register.specs.Layout.{bytesBefore}
 use Rattle.register.specs.File.{rowsIn, columnsIn, versionIn, directoryIn, markIn, mark, widthIn, unfitColumn}
 use Rattle.register.specs.Answers.{refusal}
@@ -27,13 +27,13 @@ use Rattle.register.specs.Opening.{firstUnfit, openLines, openedOf}
 use Rattle.register.proofs.Opening.{marked, right-version, few-rows, few-columns, directory-last, all-fit, accepted}
 
 pub record Fit (file : List ℕ) : Type 0 where
-  pub long : 16 ≤ length file
+  pub long : trailerBytes ≤ length file
   pub marked : markIn file ≡ mark
   pub version : versionIn file ≡ 1
   pub few-rows : rowsIn file ≤ mostRows
   pub some-columns : columnsIn file ≡ 0 → ⊥
   pub few-columns : columnsIn file ≤ mostColumns
-  pub placed : directoryIn file + 8 * columnsIn file + 16 ≡ length file
+  pub placed : directoryIn file + entryBytes * columnsIn file + trailerBytes ≡ length file
   pub each-fit : (column : ℕ) → column < columnsIn file → unfitColumn file column ≡ false
   pub whole : bytesBefore (rowsIn file) (widthIn file) (columnsIn file) ≡ directoryIn file
 
@@ -55,11 +55,11 @@ unfolding openedOf openLines
 opened-is-fit file shape e =
     let answered = none-answers (firstLine (openLines file)) (shapeIn file) shape e in
     let line = each-fails (openLines file) (none-when-accepted (openLines file) (answered .0)) in
-    let one = neither (ltb (length file) 16) (not (eqb (markIn file) mark)) (line .0) in
+    let one = neither (ltb (length file) trailerBytes) (not (eqb (markIn file) mark)) (line .0) in
     let four = neither (eqb (columnsIn file) 0) (ltb mostColumns (columnsIn file)) (line .1 .1 .1 .0) in
     let six = ltb-false (firstUnfit file) (columnsIn file) (line .1 .1 .1 .1 .1 .0) in (
       record {
-        long = ltb-false (length file) 16 (one .0);
+        long = ltb-false (length file) trailerBytes (one .0);
         marked = eqb-true (markIn file) mark (not-false _ (one .1));
         version = eqb-true (versionIn file) 1 (not-false _ (line .1 .0));
         few-rows = ltb-false mostRows (rowsIn file) (line .1 .1 .0);

@@ -18,7 +18,7 @@ use borrow.Author.Tests.{lt-ltb, le-ltb, eq-eqb, ne-eqb}
 use Rattle.basis.specs.Refusals.{Line, answerBy, firstLine, shownBy}
 use Rattle.register.specs.declared.Opened.{Opened}
 use Rattle.register.specs.declared.Opened.the-variants.{Register, Refused}
-use Rattle.register.specs.Limits.{mostRows, mostColumns}
+use Rattle.limits.specs.Limits.{mostRows, mostColumns, entryBytes, trailerBytes}
 use Rattle.register.specs.Layout.{bytesBefore}
 use Rattle.register.specs.File.{rowsIn, columnsIn, versionIn, directoryIn, markIn, mark, widthIn}
 use Rattle.register.specs.Answers.{refusal, refusedWith, shownOf}
@@ -43,17 +43,17 @@ after passed file =
     (firstLine (drop passed (openLines file)))
 
 module _ (file : List ℕ) where
-  pub too-short : length file < 16 → openedOf file ≡ refusedWith 1 0
+  pub too-short : length file < trailerBytes → openedOf file ≡ refusedWith 1 0
   unfolding openedOf openLines
-  too-short h = simp (lt-ltb (length file) 16 h)
+  too-short h = simp (lt-ltb (length file) trailerBytes h)
 
-  pub wrong-mark : 16 ≤ length file → (markIn file ≡ mark → ⊥) → openedOf file ≡ refusedWith 1 0
+  pub wrong-mark : trailerBytes ≤ length file → (markIn file ≡ mark → ⊥) → openedOf file ≡ refusedWith 1 0
   unfolding openedOf openLines
-  wrong-mark long h = simp (le-ltb (length file) 16 long, ne-eqb (markIn file) mark h)
+  wrong-mark long h = simp (le-ltb (length file) trailerBytes long, ne-eqb (markIn file) mark h)
 
-  pub marked : 16 ≤ length file → markIn file ≡ mark → openedOf file ≡ after 1 file
+  pub marked : trailerBytes ≤ length file → markIn file ≡ mark → openedOf file ≡ after 1 file
   unfolding openedOf openLines
-  marked long h = simp (le-ltb (length file) 16 long, eq-eqb (markIn file) mark h)
+  marked long h = simp (le-ltb (length file) trailerBytes long, eq-eqb (markIn file) mark h)
 
   module _ (passed : openedOf file ≡ after 1 file) where
     pub wrong-version : (versionIn file ≡ 1 → ⊥) → openedOf file ≡ refusedWith 2 0
@@ -87,13 +87,13 @@ module _ (file : List ℕ) where
     few-columns present h = passed ∙ simp (ne-eqb (columnsIn file) 0 present, le-ltb mostColumns (columnsIn file) h)
 
   module _ (passed : openedOf file ≡ after 4 file) where
-    pub directory-elsewhere : (directoryIn file + 8 * columnsIn file + 16 ≡ length file → ⊥) → openedOf file ≡ refusedWith 5 0
+    pub directory-elsewhere : (directoryIn file + entryBytes * columnsIn file + trailerBytes ≡ length file → ⊥) → openedOf file ≡ refusedWith 5 0
     unfolding openLines
-    directory-elsewhere h = passed ∙ simp (ne-eqb (directoryIn file + 8 * columnsIn file + 16) (length file) h)
+    directory-elsewhere h = passed ∙ simp (ne-eqb (directoryIn file + entryBytes * columnsIn file + trailerBytes) (length file) h)
 
-    pub directory-last : directoryIn file + 8 * columnsIn file + 16 ≡ length file → openedOf file ≡ after 5 file
+    pub directory-last : directoryIn file + entryBytes * columnsIn file + trailerBytes ≡ length file → openedOf file ≡ after 5 file
     unfolding openLines
-    directory-last h = passed ∙ simp (eq-eqb (directoryIn file + 8 * columnsIn file + 16) (length file) h)
+    directory-last h = passed ∙ simp (eq-eqb (directoryIn file + entryBytes * columnsIn file + trailerBytes) (length file) h)
 
   module _ (passed : openedOf file ≡ after 5 file) where
     pub unfit-column : firstUnfit file < columnsIn file → openedOf file ≡ refusedWith 6 (firstUnfit file)

@@ -4,13 +4,14 @@ use mathlib.Core.List.{List, [], _∷_}
 use mathlib.Core.Bool.{Bool, not, _||_}
 use lib.Dec.{eqb}
 use lib.ListN.{length, getD, take, drop}
+use Rattle.limits.specs.Limits.{entryBytes, trailerBytes}
 use Rattle.basis.specs.Numbers.{little, numberAt}
 use Rattle.codes.specs.Width.{unfitWidth}
 use Rattle.register.specs.Layout.{bytesBefore}
 
 -- the trailer: the last 16 bytes
 unfoldable pub trailerIn : List ℕ → List ℕ
-trailerIn file = drop (length file - 16) file
+trailerIn file = drop (length file - trailerBytes) file
 
 -- in it: rows (4 bytes), columns (2), version (2), offset of the directory (4), mark (4)
 abbrev pub rowsIn : List ℕ → ℕ
@@ -37,7 +38,7 @@ mark = little markBytes
 
 -- the directory: 8 bytes a column
 unfoldable pub entryIn : List ℕ → ℕ → List ℕ
-entryIn file column = take 8 (drop (directoryIn file + 8 * column) file)
+entryIn file column = take entryBytes (drop (directoryIn file + entryBytes * column) file)
 
 -- in an entry: width (1 byte), three spare bytes, offset of the column's slice 1 (4)
 abbrev pub widthOf : List ℕ → ℕ

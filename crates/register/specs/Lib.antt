@@ -1,5 +1,4 @@
 -- What a register's file is, what opening it answers, and what asking for its widths does.
-pub mod Limits
 pub mod Layout
 pub mod File
 pub mod Cells

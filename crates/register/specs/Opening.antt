@@ -8,7 +8,7 @@ use Rattle.basis.specs.Places.{firstPlace}
 use Rattle.basis.specs.Refusals.{Line, refuse, refuseAt, firstLine, answerBy, shownBy}
 use Rattle.register.specs.declared.Opened.{Opened}
 use Rattle.register.specs.declared.Opened.the-variants.{Register, Refused}
-use Rattle.register.specs.Limits.{mostRows, mostColumns}
+use Rattle.limits.specs.Limits.{mostRows, mostColumns, entryBytes, trailerBytes}
 use Rattle.register.specs.Layout.{bytesBefore}
 use Rattle.register.specs.File.{rowsIn, columnsIn, versionIn, directoryIn, markIn, mark, widthIn, unfitColumn}
 use Rattle.register.specs.Answers.{refusal}
@@ -26,11 +26,11 @@ firstUnfit file = firstPlace (unfitColumn file) (columnsIn file)
 -- 7: the slices of all columns do not end where the directory starts
 unfoldable pub openLines : List ℕ → List Line
 openLines file =
-    refuse 1 (ltb (length file) 16 || not (eqb (markIn file) mark))
+    refuse 1 (ltb (length file) trailerBytes || not (eqb (markIn file) mark))
     ∷ refuse 2 (not (eqb (versionIn file) 1))
     ∷ refuse 3 (ltb mostRows (rowsIn file))
     ∷ refuse 4 (eqb (columnsIn file) 0 || ltb mostColumns (columnsIn file))
-    ∷ refuse 5 (not (eqb (directoryIn file + 8 * columnsIn file + 16) (length file)))
+    ∷ refuse 5 (not (eqb (directoryIn file + entryBytes * columnsIn file + trailerBytes) (length file)))
     ∷ refuseAt 6 (ltb (firstUnfit file) (columnsIn file)) (firstUnfit file)
     ∷ refuse 7 (not (eqb (bytesBefore (rowsIn file) (widthIn file) (columnsIn file)) (directoryIn file)))
     ∷ []

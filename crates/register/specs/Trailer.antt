@@ -2,6 +2,7 @@
 use Prim.Native.Nat.{ℕ, _<_, _^_}
 use mathlib.Core.Path.{_≡_}
 use mathlib.Core.List.{List}
+use Rattle.limits.specs.Limits.{fourBytes}
 use Rattle.basis.specs.Numbers.{numberAt}
 use Rattle.register.specs.declared.Trailer.{Trailer}
 
@@ -12,4 +13,4 @@ pub record TrailerRead (last : List ℕ) (trailer : Trailer) : Type 0 where
   pub version : trailer .version ≡ numberAt last 6 2
   pub directory : trailer .directory ≡ numberAt last 8 4
   pub mark : trailer .mark ≡ numberAt last 12 4
-  pub directory-small : trailer .directory < 2 ^ 32
+  pub directory-small : trailer .directory < fourBytes

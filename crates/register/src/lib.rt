@@ -1,11 +1,15 @@
 // A register's file: opening it, and what its directory says of a column. The file is lent as a
 // slice of bytes, is read where it lies and is never changed.
+use limits::ENTRY_BYTES;
+use limits::MOST_COLUMNS;
+use limits::MOST_ROWS;
+use limits::TRAILER_BYTES;
 ghost use mathlib.Core.Path.{_≡_};
 ghost use Prim.Native.Nat.{_+_, _*_, _≤_, _<_, _^_};
 ghost use lib.ListN.{length};
 ghost use Rattle.basis.specs.Numbers.{little};
 ghost use Rattle.basis.specs.Places.{firstPlace};
-ghost use Rattle.register.specs.Limits.{mostRows, mostColumns};
+ghost use Rattle.limits.specs.Limits.{mostRows, mostColumns, mostSlices, entryBytes, trailerBytes, fourBytes};
 ghost use Rattle.register.specs.Layout.{slicesBefore};
 ghost use Rattle.register.specs.File.{rowsIn, directoryIn, entryIn, widthIn, offsetIn, unfitEntry, unfitColumn};
 ghost use Rattle.register.specs.Trailer.{TrailerRead};
@@ -13,11 +17,6 @@ ghost use Rattle.register.specs.Answers.{refusedWith, refusalOf, shownOf
 ghost use Rattle.register.specs.Opening.{openedOf, shownFor};
 ghost use Rattle.register.specs.Widths as measuring;
 ghost use Rattle.basis.specs.Buffers.{laid};
-
-// Rows and columns that a register may have.
-pub const MOST_ROWS: usize = 1048576;
-
-pub const MOST_COLUMNS: usize = 32;
 
 // The mark 42 53 4C 31 at a file's end, as a number of four bytes.
 pub const MARK: usize = 0x314C5342;
@@ -70,10 +69,10 @@ pub fn open(file: &[u8]) -> Opened
     ensures shown { λ r. ⌜ shownOf r ≡ shownFor (now (file .entry)) ⌝ }
 {
     let length = file.len();
-    if length < 16 {
+    if length < TRAILER_BYTES {
         return refused(1, 0);
     }
-    let trailer = read_trailer(&file[length - 16..]);
+    let trailer = read_trailer(&file[length - TRAILER_BYTES..]);
     if trailer.mark != MARK {
         return refused(1, 0);
     }
@@ -89,7 +88,7 @@ pub fn open(file: &[u8]) -> Opened
     if MOST_COLUMNS < trailer.columns {
         return refused(4, 0);
     }
-    if trailer.directory + 8 * trailer.columns + 16 != length {
+    if trailer.directory + ENTRY_BYTES * trailer.columns + TRAILER_BYTES != length {
         return refused(5, 0);
     }
     let judged = judge(file, trailer.directory, trailer.rows, trailer.columns);
@@ -174,11 +173,11 @@ pub fn offset_at(file: &[u8], shape: Shape, column: usize) -> usize
 // The directory's 8 bytes for a column of an opened file.
 fn entry_of(file: &[u8], shape: Shape, column: usize) -> &[u8]
     requires { ⌜ (openedOf (now file) ≡ Opened.Register shape) × (column < shape .columns) ⌝ }
-    ensures { λ r. ⌜ (now r ≡ entryIn (now (file .entry)) column) × (length (now r) ≡ 8) ⌝ }
+    ensures { λ r. ⌜ (now r ≡ entryIn (now (file .entry)) column) × (length (now r) ≡ entryBytes) ⌝ }
 {
     let columns = shape.columns;
-    let from = file.len() - 16 - 8 * (columns - column);
-    let to = from + 8;
+    let from = file.len() - TRAILER_BYTES - ENTRY_BYTES * (columns - column);
+    let to = from + ENTRY_BYTES;
     &file[from..to]
 }
 
@@ -201,7 +200,7 @@ fn wide(x: u8) -> usize
 // The number that at most four bytes make, the least significant first.
 fn number_of(bytes: &[u8]) -> usize
     requires { ⌜ length (now bytes) ≤ 4 ⌝ }
-    ensures { λ r. ⌜ (r ≡ little (now (bytes .entry))) × (r < 2 ^ 32) ⌝ }
+    ensures { λ r. ⌜ (r ≡ little (now (bytes .entry))) × (r < fourBytes) ⌝ }
 {
     let mut number: usize = 0;
     let mut left = bytes.len();
@@ -213,7 +212,7 @@ fn number_of(bytes: &[u8]) -> usize
 }
 
 fn read_trailer(last: &[u8]) -> Trailer
-    requires { ⌜ length (now last) ≡ 16 ⌝ }
+    requires { ⌜ length (now last) ≡ trailerBytes ⌝ }
     ensures { λ r. ⌜ TrailerRead (now (last .entry)) r ⌝ }
 {
     Trailer {
@@ -227,7 +226,7 @@ fn read_trailer(last: &[u8]) -> Trailer
 
 // Whether a directory entry is unfit for a column that should start at the offset.
 fn unfit_entry(entry: &[u8], offset: usize) -> bool
-    requires { ⌜ length (now entry) ≡ 8 ⌝ }
+    requires { ⌜ length (now entry) ≡ entryBytes ⌝ }
     ensures { λ r. ⌜ r ≡ unfitEntry (now (entry .entry)) offset ⌝ }
 {
     if codes::unfit_width(entry[0]) {
@@ -242,16 +241,16 @@ fn unfit_entry(entry: &[u8], offset: usize) -> bool
 // Goes through the directory column by column, and ends at the first that is unfit.
 fn judge(file: &[u8], directory: usize, rows: usize, columns: usize) -> Judged
     requires { ⌜ (rows ≡ rowsIn (now file)) × (directory ≡ directoryIn (now file)) ⌝ }
-    requires { ⌜ (rows ≤ mostRows) × (columns ≤ mostColumns) × (directory + 8 * columns ≤ length (now file)) ⌝ }
+    requires { ⌜ (rows ≤ mostRows) × (columns ≤ mostColumns) × (directory + entryBytes * columns ≤ length (now file)) ⌝ }
     ensures { λ r. ⌜ (r .place ≡ firstPlace (unfitColumn (now (file .entry))) columns)
         × (r .slices ≡ slicesBefore (widthIn (now (file .entry))) (r .place))
-        × (r .slices ≤ 4 * r .place) ⌝ }
+        × (r .slices ≤ mostSlices * r .place) ⌝ }
 {
     let mut slices: usize = 0;
     let mut column = 0;
     while column < columns {
-        let from = directory + 8 * column;
-        let to = from + 8;
+        let from = directory + ENTRY_BYTES * column;
+        let to = from + ENTRY_BYTES;
         let entry = &file[from..to];
         if unfit_entry(entry, rows * slices) {
             return Judged {

@@ -7,19 +7,19 @@ use mathlib.Core.List.{List}
 use lib.ListN.{length}
 use Rattle.basis.proofs.Lists.{sum-at-most}
 use Rattle.codes.specs.Width.{slicesOf}
-use Rattle.codes.proofs.Width.{slices-at-most-four}
-use Rattle.register.specs.Limits.{mostRows}
+use Rattle.codes.proofs.Width.{few-slices-of}
+use Rattle.limits.specs.Limits.{mostRows, mostSlices}
 use Rattle.register.specs.Layout.{slicesBefore, bytesBefore}
 use Rattle.register.proofs.Directory.{few-bytes}
 use Rattle.judging.specs.Table.{widthOf, FitWidths}
 use Rattle.judging.proofs.Columns.{narrow}
 
 module _ (widths : List ℕ) (fit : FitWidths widths) (column : ℕ) (within : column ≤ length widths) where
-  pub few-slices : slicesBefore (widthOf widths) column ≤ 4 * column
+  pub few-slices : slicesBefore (widthOf widths) column ≤ mostSlices * column
   unfolding slicesBefore
   few-slices =
-      sum-at-most (λ earlier. slicesOf (widthOf widths earlier)) 4 column
-      (λ earlier h. slices-at-most-four (widthOf widths earlier) (narrow widths fit earlier (omega arith)))
+      sum-at-most (λ earlier. slicesOf (widthOf widths earlier)) mostSlices column
+      (λ earlier h. few-slices-of (widthOf widths earlier) (narrow widths fit earlier (omega arith)))
 
   pub bytes-fit : (rows : ℕ) → rows ≤ mostRows → bytesBefore rows (widthOf widths) column < 256 ^ 4
   bytes-fit rows few =

@@ -11,6 +11,7 @@ use mathlib.Core.List.{List, [], _∷_}
 use mathlib.Core.Bool.{false}
 use lib.ListN.{length}
 use borrow.Author.Tests.{eq-eqb}
+use Rattle.limits.specs.Limits.{entryBytes}
 use Rattle.basis.specs.Numbers.{little, toLittle, numberAt}
 use Rattle.basis.specs.Lists.{below}
 use Rattle.basis.proofs.Members.{sum-each-same}
@@ -42,15 +43,15 @@ module _ (rows : ℕ) (widths codes : List ℕ) (fit-widths : FitWidths widths) 
   module _ (column : ℕ) (there : column < length widths) where
     -- where the entry stands
     entry-there :
-        PartAt (fileOf rows widths codes) (bytesBefore rows (widthOf widths) (length widths) + 8 * column) (entryOf rows widths column)
+        PartAt (fileOf rows widths codes) (bytesBefore rows (widthOf widths) (length widths) + entryBytes * column) (entryOf rows widths column)
     unfolding fileOf directoryOf
     entry-there =
-        let among = joined-part (entryOf rows widths) column (length widths) (8 * column) there (length-entries rows widths column) in
+        let among = joined-part (entryOf rows widths) column (length widths) (entryBytes * column) there (length-entries rows widths column) in
         part-behind (bodyOf rows widths codes) _ (length-bodyOf rows widths codes) (part-in-front (trailerOf rows widths) among)
 
     pub written-entry : entryIn (fileOf rows widths codes) column ≡ entryOf rows widths column
     unfolding entryIn
-    written-entry = rw (written-directory rows widths codes fit-widths fit-codes) (part-cut 8 (length-entryWith _ _) entry-there)
+    written-entry = rw (written-directory rows widths codes fit-widths fit-codes) (part-cut entryBytes (length-entryWith _ _) entry-there)
 
     pub written-width : widthIn (fileOf rows widths codes) column ≡ widthOf widths column
     unfolding widthIn entryWith

@@ -11,6 +11,7 @@ use mathlib.Core.Path.{_≡_, refl, ap}
 use mathlib.Core.List.{List, _++_, append-assoc}
 use lib.ListN.{length, length-append}
 use lib.Seq.{drop-at}
+use Rattle.limits.specs.Limits.{trailerBytes}
 use Rattle.basis.specs.Numbers.{little, toLittle, numberAt}
 use Rattle.basis.proofs.Numbers.{length-toLittle}
 use Rattle.register.specs.Layout.{bytesBefore}
@@ -44,9 +45,9 @@ module _ (rows : ℕ) (widths codes : List ℕ) where
   written-trailer =
       let front = bodyOf rows widths codes ++ directoryOf rows widths in
       let last = trailerOf rows widths in
-      let long : length last ≡ 16 = length-trailerWith rows (length widths) _ in
+      let long : length last ≡ trailerBytes = length-trailerWith rows (length widths) _ in
       let whole = append-assoc (bodyOf rows widths codes) (directoryOf rows widths) last in
-      let place : length front ≡ length (front ++ last) - 16 = omega (arith, length-append front last) in
+      let place : length front ≡ length (front ++ last) - trailerBytes = omega (arith, length-append front last) in
       rw (← whole) (drop-at front last _ place)
 
   pub written-version : versionIn (fileOf rows widths codes) ≡ 1

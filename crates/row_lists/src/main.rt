@@ -1,7 +1,7 @@
 // Lists the rows of bits and prints each reply, number, place and need of a refusal and how many rows were listed, and the
 // elements of the output. What it must print is made by tests/expect_row_lists.py, which goes bit by bit.
 use libc::STDOUT_FILENO;
-use register::MOST_ROWS;
+use limits::MOST_ROWS;
 use rows::Listed;
 ghost use mathlib.Core.Path.{_≡_};
 ghost use Prim.Native.Nat.{_≤_, min};

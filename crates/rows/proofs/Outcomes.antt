@@ -15,7 +15,7 @@ use lib.ListN.{length}
 use Rattle.basis.specs.Refusals.{Line, refuse, refuseFor, firstLine}
 use Rattle.basis.specs.Buffers.{laid}
 use Rattle.basis.proofs.Truth.{neither}
-use Rattle.register.specs.Limits.{mostRows}
+use Rattle.limits.specs.Limits.{mostRows}
 use Rattle.register.specs.Answers.{refusal}
 use Rattle.packing.specs.Bits.{bytesFor}
 use Rattle.rows.specs.declared.Listed.{Listed}

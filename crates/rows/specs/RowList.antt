@@ -7,7 +7,7 @@ use lib.ListN.{length}
 use Rattle.basis.specs.Lists.{any, those, run, below}
 use Rattle.basis.specs.Refusals.{Line, refuse, refuseFor, firstLine, answerBy, shownBy}
 use Rattle.basis.specs.Buffers.{laid}
-use Rattle.register.specs.Limits.{mostRows}
+use Rattle.limits.specs.Limits.{mostRows}
 use Rattle.register.specs.Answers.{refusal}
 use Rattle.packing.specs.Bits.{bytesFor, bitIn}
 use Rattle.rows.specs.declared.Listed.{Listed}

@@ -1,15 +1,15 @@
 // Turns the bits of a result into the list of the rows whose bit is set, rising.
 mod positions;
 
+use limits::MOST_ROWS;
 use positions::POSITIONS;
-use register::MOST_ROWS;
 use register::Refusal;
 ghost use mathlib.Core.Path.{_≡_};
 ghost use Prim.Native.Nat.{_+_, _*_, _^_, _≤_, _<_};
 ghost use lib.ListN.{length, getD};
 ghost use mathlib.Core.List.{map};
 ghost use Rattle.basis.specs.Buffers.{laid};
-ghost use Rattle.register.specs.Limits.{mostRows};
+ghost use Rattle.limits.specs.Limits.{mostRows, fourBytes};
 ghost use Rattle.packing.specs.Bits.{bytesFor};
 ghost use Rattle.basis.specs.Lists.{below};
 ghost use Rattle.rows.specs.Places.{placesIn, placesOf, HoldsPlaces};
@@ -188,7 +188,7 @@ fn put_word(
     at: usize,
     all: usize,
 ) -> usize
-    requires { ⌜ HoldsPlaces (now positions) × (first + 512 < 2 ^ 32) ⌝ }
+    requires { ⌜ HoldsPlaces (now positions) × (first + 512 < fourBytes) ⌝ }
     requires { ⌜ (at + length (placesIn 64 word) ≤ all) × (all ≤ length (now out)) ⌝ }
     ensures { λ r. ⌜ WordPut word first at all (now (out .entry)) (now (out .exit)) r ⌝ }
 {
@@ -239,7 +239,7 @@ fn put_byte(
     all: usize,
 )
     requires { ⌜ HoldsPlaces (now positions) × (many ≡ length (placesOf byte)) ⌝ }
-    requires { ⌜ (first + 256 < 2 ^ 32) × (at + many ≤ all) × (all ≤ length (now out)) ⌝ }
+    requires { ⌜ (first + 256 < fourBytes) × (at + many ≤ all) × (all ≤ length (now out)) ⌝ }
     ensures { λ _. ⌜ BytePut byte first at all (now (out .entry)) (now (out .exit)) ⌝ }
 {
     if at + 8 <= all {
@@ -260,7 +260,7 @@ fn write_places(
     at: usize,
 )
     requires { ⌜ HoldsPlaces (now positions) × (many ≤ 8) ⌝ }
-    requires { ⌜ (first + 256 < 2 ^ 32) × (at + many ≤ length (now out)) ⌝ }
+    requires { ⌜ (first + 256 < fourBytes) × (at + many ≤ length (now out)) ⌝ }
     ensures { λ _. ⌜ now (out .exit) ≡ laid (now (out .entry)) at (map (rowAt byte first) (below many)) ⌝ }
 {
     let mut k = 0;

@@ -25,7 +25,8 @@ use Rattle.register.specs.File.{rowsIn, columnsIn, widthIn}
 use Rattle.register.specs.Opening.{openLines, openedOf}
 use Rattle.query.specs.declared.Test.{Test}
 use Rattle.query.specs.declared.Query.{Query}
-use Rattle.query.specs.Tests.{mostTests, emptySlot, testsOf, testAt}
+use Rattle.limits.specs.Limits.{mostTests}
+use Rattle.query.specs.Tests.{emptySlot, testsOf, testAt}
 use Rattle.query.proofs.Slots.{filled-at}
 use Rattle.schedule.specs.Schedule.{count}
 use Rattle.schedule.specs.Comparisons.{ColumnTest, comparing}

@@ -18,7 +18,8 @@ use Rattle.basis.proofs.Members.{sum-each-same, sum-mapped}
 use Rattle.basis.proofs.Runs.{within-or-past, in-below, sum-ends, taken-by-number}
 use Rattle.register.specs.File.{rowsIn}
 use Rattle.query.specs.declared.Test.{Test}
-use Rattle.query.specs.Tests.{mostTests, emptySlot, testAt, slotsOf}
+use Rattle.limits.specs.Limits.{mostTests}
+use Rattle.query.specs.Tests.{emptySlot, testAt, slotsOf}
 use Rattle.query.proofs.Slots.{length-filled, filled-at, filled-after}
 use Rattle.schedule.specs.Segments.{segments}
 use Rattle.schedule.specs.Schedule.{count, total, matches}
@@ -32,20 +33,20 @@ use Rattle.scan.proofs.Sizes.{Eighths}
 use Rattle.scan.proofs.SegmentSums.{foundIn, counted-in-all}
 use Rattle.scan.proofs.RowsSoFar.{SoFar}
 
-pub slots-are : (counts numbers : List ℕ) → length counts ≡ 16 → length numbers ≤ 16 →
+pub slots-are : (counts numbers : List ℕ) → length counts ≡ mostTests → length numbers ≤ mostTests →
     ((t : ℕ) → t < length numbers → getD counts t 0 ≡ getD numbers t 0) →
     ((t : ℕ) → length numbers ≤ t → getD counts t 0 ≡ 0) → counts ≡ slotsOf 0 numbers
 slots-are counts numbers sixteen few each rest =
     ext-getD 0 counts (slotsOf 0 numbers) (sixteen ∙ sym (length-filled 0 mostTests numbers))
     (λ t h. go t (omega arith) (within-or-past t (length numbers)))
   where
-    go : (t : ℕ) → t < 16 → (t < length numbers) ⊎ (length numbers ≤ t) → getD counts t 0 ≡ getD (slotsOf 0 numbers) t 0
+    go : (t : ℕ) → t < mostTests → (t < length numbers) ⊎ (length numbers ≤ t) → getD counts t 0 ≡ getD (slotsOf 0 numbers) t 0
     go t h (inl inside) = each t inside ∙ sym (filled-at 0 mostTests numbers t inside few)
     go t h (inr past) = rest t past ∙ sym (filled-after 0 mostTests numbers t past h)
 
-sum-of-slots : (f : Test → ℕ) (tests : List Test) (many : ℕ) (counts : List ℕ) → many ≤ length tests → many ≤ 16 →
+sum-of-slots : (f : Test → ℕ) (tests : List Test) (many : ℕ) (counts : List ℕ) → many ≤ length tests → many ≤ mostTests →
     ((t : ℕ) → t < many → getD counts t 0 ≡ f (testAt tests t)) → ((t : ℕ) → many ≤ t → getD counts t 0 ≡ 0) →
-    sum (λ t. getD counts t 0) (below 16) ≡ sum f (take many tests)
+    sum (λ t. getD counts t 0) (below mostTests) ≡ sum f (take many tests)
 sum-of-slots f tests many counts there few each rest =
     sum-ends (λ t. getD counts t 0) few rest
     ∙ sum-each-same (λ t. getD counts t 0) (λ t. f (testAt tests t)) (below many) (λ t m. each t (in-below many t m))
@@ -82,7 +83,7 @@ module _ (file : List ℕ) (tests : List Test) (many size rows : ℕ) (same-rows
       (omega (arith, length-take-le many tests there))
       ∙ ap (widened file) (getD-take many tests t emptySlot h))
 
-  pub all-scanned : (sums : ℕ) → sums ≡ sum (λ t. getD counts t 0) (below 16) → {r : Scanned} →
+  pub all-scanned : (sums : ℕ) → sums ≡ sum (λ t. getD counts t 0) (below mostTests) → {r : Scanned} →
       r ≡ record { refusal = record { number = 0; place = 0; need = 0 }; matches = matched; counts = counts; total = sums } →
       r ≡ accepted file size (asked tests many)
   unfolding accepted matches total

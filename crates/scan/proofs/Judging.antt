@@ -29,7 +29,8 @@ use Rattle.register.specs.File.{columnsIn, widthIn}
 use Rattle.register.specs.Opening.{openedOf}
 use Rattle.register.proofs.Fit.{opened-is-fit}
 use Rattle.query.specs.declared.Test.{Test}
-use Rattle.query.specs.Tests.{mostTests, literalOf, emptySlot, testAt}
+use Rattle.limits.specs.Limits.{mostTests}
+use Rattle.query.specs.Tests.{literalOf, emptySlot, testAt}
 use Rattle.scan.specs.declared.Verdict.the-variants.{Fit, Unfit}
 use Rattle.scan.specs.Refusals.{testLines}
 use Rattle.segment.specs.Steps.{Judged}

@@ -32,7 +32,8 @@ use Rattle.register.proofs.Fit.{opened-is-fit}
 use Rattle.register.proofs.PassedOn.{refusal-passed-on, own-lines-next}
 use Rattle.query.specs.declared.Test.{Test}
 use Rattle.query.specs.declared.Query.{Query}
-use Rattle.query.specs.Tests.{mostTests, literalOf, testsOf}
+use Rattle.limits.specs.Limits.{mostTests}
+use Rattle.query.specs.Tests.{literalOf, testsOf}
 use Rattle.scan.specs.declared.Scanned.{Scanned}
 use Rattle.scan.specs.declared.Verdict.the-variants.{Fit, Unfit}
 use Rattle.packing.specs.Bits.{bytesFor}

@@ -18,7 +18,8 @@ use Rattle.basis.proofs.Members.{sum-each-same}
 use Rattle.basis.proofs.Runs.{within-or-past, in-below}
 use Rattle.basis.proofs.Buffers.{Filled, filled-nothing, filled-more}
 use Rattle.query.specs.declared.Test.{Test}
-use Rattle.query.specs.Tests.{mostTests, testAt}
+use Rattle.limits.specs.Limits.{mostTests}
+use Rattle.query.specs.Tests.{testAt}
 use Rattle.schedule.specs.Schedule.{countIn}
 use Rattle.schedule.specs.Comparisons.{comparing}
 use Rattle.schedule.proofs.Numbered.{segment-is-run}
@@ -39,19 +40,19 @@ pub record SoFar (file : List ℕ) (tests : List Test) (count size rows : ℕ) (
   pub reached : first ≡ min (done * size) rows
   pub counted : (t : ℕ) → t < count → getD counts t 0 ≡ sum (countedIn file tests count size rows t) (below done)
   pub after : (t : ℕ) → count ≤ t → getD counts t 0 ≡ 0
-  pub sixteen : length counts ≡ 16
+  pub sixteen : length counts ≡ mostTests
   pub matched : matches ≡ sum (λ row. cond (foundIn file tests count row) 1 0) (below first)
   pub filled : Filled before 0 (bitsOf (foundIn file tests count) first) result
 
 pub nothing-yet : (file : List ℕ) (tests : List Test) (count size rows : ℕ) (before : List ℕ) →
-    SoFar file tests count size rows before before (replicate 16 0) 0 0
+    SoFar file tests count size rows before before (replicate mostTests 0) 0 0
 unfolding bitsOf bytesFor
 nothing-yet file tests count size rows before =
     record {
       done = 0;
       reached = omega arith;
-      counted = λ t h. all-zero 16 t;
-      after = λ t h. all-zero 16 t;
+      counted = λ t h. all-zero mostTests t;
+      after = λ t h. all-zero mostTests t;
       sixteen = refl;
       matched = refl;
       filled = filled-nothing before 0;
@@ -98,7 +99,7 @@ module _ (file : List ℕ) (tests : List Test) (count size rows : ℕ) (sized : 
         ap₂ _+_ (far .counted t h) there ∙ sym (sum-one-more (countedIn file tests count size rows t) (far .done))
 
     pub one-more-segment : (result′ counts′ : List ℕ) (more : ℕ) →
-        Swept counts counts′ 0 16 (λ t. getD counts t 0 + getD (segment .counts) t 0) →
+        Swept counts counts′ 0 mostTests (λ t. getD counts t 0 + getD (segment .counts) t 0) →
         more ≡ sum (λ k. getD (segment .found) k 0) (below n) →
         result′ ≡ laid result (first / 8) (bitsOf (λ k. eqb (getD (segment .found) k 0) 1) n) → bytesFor rows ≤ length before →
         SoFar file tests count size rows before result′ counts′ (matches + more) (first + n)
@@ -110,7 +111,7 @@ module _ (file : List ℕ) (tests : List Test) (count size rows : ℕ) (sized : 
           done = suc (far .done);
           reached = rw (suc-mul (far .done) size) (omega (arith, here));
           counted = λ t h. sums t (omega arith) ∙ next-counted t h;
-          after = λ t h. none t h (within-or-past t 16);
+          after = λ t h. none t h (within-or-past t mostTests);
           sixteen = added .same-length ∙ far .sixteen;
           matched =
               ap₂ _+_ (far .matched) (ones ∙ found-here)
@@ -123,10 +124,10 @@ module _ (file : List ℕ) (tests : List Test) (count size rows : ℕ) (sized : 
               put);
         }
       where
-        sums : (t : ℕ) → t < 16 → getD counts′ t 0 ≡ getD counts t 0 + getD (segment .counts) t 0
+        sums : (t : ℕ) → t < mostTests → getD counts′ t 0 ≡ getD counts t 0 + getD (segment .counts) t 0
         sums t h = rw (zero-add t) at (added .inside t h)
 
-        none : (t : ℕ) → count ≤ t → (t < 16) ⊎ (16 ≤ t) → getD counts′ t 0 ≡ 0
+        none : (t : ℕ) → count ≤ t → (t < mostTests) ⊎ (mostTests ≤ t) → getD counts′ t 0 ≡ 0
         none t past (inl h) = sums t h ∙ rw (far .after t past, scanned .after t past)
         none t past (inr h) = added .behind t (omega arith) ∙ far .after t past
 

@@ -13,10 +13,9 @@ use lib.ListN.{length}
 use Rattle.basis.specs.Lists.{sum, below}
 use Rattle.basis.proofs.Lists.{sum-grows}
 use Rattle.basis.proofs.Runs.{within-or-past, sum-ends}
-use Rattle.codes.specs.Width.{widest}
-use Rattle.codes.proofs.Width.{slices-at-most-four}
+use Rattle.codes.proofs.Width.{few-slices-of}
 use Rattle.register.specs.File.{widthIn}
-use Rattle.register.specs.Limits.{mostRows}
+use Rattle.limits.specs.Limits.{mostRows, widest, mostSlices}
 use Rattle.query.specs.declared.Test.{Test}
 use Rattle.schedule.specs.Segments.{segmentCount, segment, segments}
 use Rattle.schedule.specs.Schedule.{countIn, count, found}
@@ -71,13 +70,13 @@ module _ (file : List ℕ) (tests : List Test) (many size rows : ℕ) (some : 0 
       go (inr over) = sum-ends (countedIn file tests many size rows t) over none-past ∙ all-of-them
 
   pub few-counted : rows ≤ mostRows → widthIn file (testAt tests t .column) ≤ widest → (done : ℕ) →
-      sum (countedIn file tests many size rows t) (below done) ≤ 2 ^ 22
+      sum (countedIn file tests many size rows t) (below done) ≤ mostRows * mostSlices
   few-counted few narrow done = go (within-or-past done (segmentCount size rows))
     where
-      all : sum (countedIn file tests many size rows t) (below (segmentCount size rows)) ≤ 2 ^ 22
+      all : sum (countedIn file tests many size rows t) (below (segmentCount size rows)) ≤ mostRows * mostSlices
       all =
-          let slices = slices-at-most-four (widthIn file (testAt tests t .column)) narrow in
-          let most = mul-le-mul {n₂ = mostRows} {m₂ = 4} few slices in
+          let slices = few-slices-of (widthIn file (testAt tests t .column)) narrow in
+          let most = mul-le-mul {n₂ = mostRows} {m₂ = mostSlices} few slices in
           omega (
             arith,
             all-of-them,
@@ -86,7 +85,7 @@ module _ (file : List ℕ) (tests : List Test) (many size rows : ℕ) (some : 0 
           )
 
       go : (done < segmentCount size rows) ⊎ (segmentCount size rows ≤ done) →
-          sum (countedIn file tests many size rows t) (below done) ≤ 2 ^ 22
+          sum (countedIn file tests many size rows t) (below done) ≤ mostRows * mostSlices
       go (inl short) =
           omega (arith, all, sum-grows (countedIn file tests many size rows t) {few = done} {many = segmentCount size rows} (omega arith))
       go (inr over) = omega (arith, all, sum-ends (countedIn file tests many size rows t) over none-past)

@@ -5,7 +5,7 @@
 --   sums-small           and does so when a segment's is added
 --   matches-at-most      the matches so far are at most the rows done
 --   room-for-segment     the segment's bits have room behind those before
-use Prim.Native.Nat.{ℕ, suc, _+_, _-_, _/_, _^_, _≤_, _<_, min}
+use Prim.Native.Nat.{ℕ, suc, _+_, _-_, _*_, _/_, _^_, _≤_, _<_, min}
 use native.Mathlib.Omega.{arith}
 use mathlib.Core.Path.{_≡_}
 use mathlib.Core.Logic.{_⊎_, inl, inr}
@@ -15,11 +15,10 @@ use lib.ListN.{length, getD}
 use Rattle.basis.specs.Lists.{sum, below}
 use Rattle.basis.proofs.Lists.{sum-at-most}
 use Rattle.basis.proofs.Runs.{within-or-past}
-use Rattle.codes.specs.Width.{widest}
 use Rattle.register.specs.File.{widthIn}
-use Rattle.register.specs.Limits.{mostRows}
+use Rattle.limits.specs.Limits.{mostRows, widest, mostSlices, mostTests, longestSegment}
 use Rattle.query.specs.declared.Test.{Test}
-use Rattle.query.specs.Tests.{mostTests, testAt}
+use Rattle.query.specs.Tests.{testAt}
 use Rattle.segment.specs.declared.Segment.{Segment}
 use Rattle.packing.specs.Bits.{bytesFor, FoundRows}
 use Rattle.segment.specs.Steps.{SegmentScanned}
@@ -32,7 +31,7 @@ at-most-one : (is : Bool) → cond is 1 0 ≤ 1
 at-most-one true = omega arith
 at-most-one false = omega arith
 
-pub found-rows : (file : List ℕ) (tests : List Test) (count first n : ℕ) (segment : Segment) → n ≤ 64 →
+pub found-rows : (file : List ℕ) (tests : List Test) (count first n : ℕ) (segment : Segment) → n ≤ longestSegment →
     SegmentScanned file tests count first n segment → FoundRows (segment .found) n
 found-rows file tests count first n segment few scanned =
     record { few = few; all = scanned .whole .0; each = λ k. go k (within-or-past k n); rest = scanned .rest }
@@ -53,18 +52,18 @@ module _ (file : List ℕ) (tests : List Test) (count size rows : ℕ) (sized : 
 
   module _ (few-rows : rows ≤ mostRows) (narrow : (t : ℕ) → t < count → widthIn file (testAt tests t .column) ≤ widest) where
     -- what a test that is there counts, over so many segments
-    few-in : (t : ℕ) → t < count → (done : ℕ) → sum (countedIn file tests count size rows t) (below done) ≤ 2 ^ 22
+    few-in : (t : ℕ) → t < count → (done : ℕ) → sum (countedIn file tests count size rows t) (below done) ≤ mostRows * mostSlices
     few-in t h = few-counted file tests count size rows (sized .some) t few-rows (narrow t h)
 
-    pub counts-small : (t : ℕ) → getD counts t 0 < 2 ^ 32
+    pub counts-small : (t : ℕ) → getD counts t 0 ≤ mostRows * mostSlices
     counts-small t = go (within-or-past t count)
       where
-        go : (t < count) ⊎ (count ≤ t) → getD counts t 0 < 2 ^ 32
+        go : (t < count) ⊎ (count ≤ t) → getD counts t 0 ≤ mostRows * mostSlices
         go (inl h) = rw (far .counted t h) (omega (arith, few-in t h (far .done)))
         go (inr h) = rw (far .after t h) (omega arith)
 
     pub sums-small : count ≤ mostTests → first < rows → (n : ℕ) → n ≡ min size (rows - first) → (segment : Segment) →
-        SegmentScanned file tests count first n segment → (t : ℕ) → getD counts t 0 + getD (segment .counts) t 0 < 2 ^ 32
+        SegmentScanned file tests count first n segment → (t : ℕ) → getD counts t 0 + getD (segment .counts) t 0 ≤ mostRows * mostSlices
     sums-small few going n so-many segment scanned t = go (within-or-past t count)
       where
         next : (h : t < count) → getD counts t 0 + getD (segment .counts) t 0 ≡
@@ -72,7 +71,7 @@ module _ (file : List ℕ) (tests : List Test) (count size rows : ℕ) (sized : 
         next =
             next-counted file tests count size rows sized few before result counts matches first far going n so-many segment scanned t
 
-        go : (t < count) ⊎ (count ≤ t) → getD counts t 0 + getD (segment .counts) t 0 < 2 ^ 32
+        go : (t < count) ⊎ (count ≤ t) → getD counts t 0 + getD (segment .counts) t 0 ≤ mostRows * mostSlices
         go (inl h) = rw (next h) (omega (arith, few-in t h (suc (far .done))))
         go (inr h) = rw (far .after t h, scanned .after t h) (omega arith)
 

@@ -9,7 +9,8 @@ use Rattle.register.specs.File.{rowsIn, columnsIn, widthIn}
 use Rattle.register.specs.Opening.{openLines}
 use Rattle.query.specs.declared.Test.{Test}
 use Rattle.query.specs.declared.Query.{Query}
-use Rattle.query.specs.Tests.{mostTests, literalOf, testsOf}
+use Rattle.limits.specs.Limits.{mostTests}
+use Rattle.query.specs.Tests.{literalOf, testsOf}
 use Rattle.packing.specs.Bits.{bytesFor}
 
 -- a segment has 8, 16, 32 or 64 rows

@@ -1,8 +1,9 @@
 -- What a step of a scan may rely on, and what it answers. Assumes nothing.
-use Prim.Native.Nat.{ℕ, _+_, _^_, _<_}
+use Prim.Native.Nat.{ℕ, _+_, _*_, _≤_, _<_}
 use mathlib.Core.List.{List}
 use mathlib.Core.Option.{Option, none, some}
 use lib.ListN.{getD}
+use Rattle.limits.specs.Limits.{mostRows, mostSlices, mostTests}
 use Rattle.basis.specs.Refusals.{Line}
 use Rattle.scan.specs.declared.Verdict.{Verdict}
 use Rattle.scan.specs.declared.Verdict.the-variants.{Fit, Unfit}
@@ -12,9 +13,9 @@ abbrev pub verdictOf : Option Line → Verdict
 verdictOf none = Fit
 verdictOf (some line) = Unfit (line .number) (line .place)
 
--- counts that four bytes hold, so that a sum of sixteen is far from the edge
+-- counts of no more than every slice of every row, so that their sum is far from the edge
 abbrev pub Small : List ℕ → Type 0
-Small counts = (t : ℕ) → t < 16 → getD counts t 0 < 2 ^ 32
+Small counts = (t : ℕ) → t < mostTests → getD counts t 0 ≤ mostRows * mostSlices
 
 abbrev pub SmallSums : List ℕ → List ℕ → Type 0
-SmallSums counts read = (t : ℕ) → t < 16 → getD counts t 0 + getD read t 0 < 2 ^ 32
+SmallSums counts read = (t : ℕ) → t < mostTests → getD counts t 0 + getD read t 0 ≤ mostRows * mostSlices

@@ -1,7 +1,7 @@
 // Scans a register: which rows meet every test of a query, and how many bytes each test needed. Rows
 // go by segments; a segment's slices are taken one after the other, by all tests, until none of them
 // has a row left that the next slice could decide.
-use query::MOST_TESTS;
+use limits::MOST_TESTS;
 use query::Query;
 use query::Test;
 use register::Opened;
@@ -11,6 +11,7 @@ ghost use mathlib.Core.Path.{_≡_};
 ghost use Prim.Native.Nat.{_+_, _≤_, _<_, min};
 ghost use mathlib.Core.Bool.{false};
 ghost use lib.ListN.{length, getD, take};
+ghost use Rattle.limits.specs.Limits.{mostTests};
 ghost use Rattle.basis.specs.Lists.{sum, below};
 ghost use Rattle.basis.specs.Buffers.{laid};
 ghost use Rattle.basis.specs.Refusals.{firstLine};
@@ -29,7 +30,7 @@ ghost use Rattle.scan.specs.Steps.{Small, SmallSums, verdictOf};
 pub struct Scanned {
     pub refusal: Refusal,
     pub matches: usize,
-    pub counts: [usize; 16],
+    pub counts: [usize; MOST_TESTS],
     pub total: usize,
 }
 
@@ -74,7 +75,7 @@ fn refused(refusal: Refusal) -> Scanned
     Scanned {
         refusal,
         matches: 0,
-        counts: [0; 16],
+        counts: [0; MOST_TESTS],
         total: 0,
     }
 }
@@ -100,8 +101,8 @@ fn unfit_size(size: usize) -> bool
 }
 
 // Goes through the tests in turn, each by its column and then by its literal.
-fn judge(file: &[u8], shape: Shape, tests: [Test; 16], count: usize) -> Verdict
-    requires { ⌜ (openedOf (now file) ≡ Register shape) × (count ≤ 16) ⌝ }
+fn judge(file: &[u8], shape: Shape, tests: [Test; MOST_TESTS], count: usize) -> Verdict
+    requires { ⌜ (openedOf (now file) ≡ Register shape) × (count ≤ mostTests) ⌝ }
     ensures verdict { λ r. ⌜ r ≡ verdictOf (firstLine (testLines (now (file .entry)) 0 (take count tests))) ⌝ }
     ensures fit { λ r. ⌜ (r ≡ Fit → Judged (now (file .entry)) shape tests count) ⌝ }
 {
@@ -128,7 +129,7 @@ fn scan_rows(
     file: &[u8],
     shape: Shape,
     size: usize,
-    tests: [Test; 16],
+    tests: [Test; MOST_TESTS],
     count: usize,
     result: &mut [u8],
 ) -> Scanned
@@ -143,7 +144,7 @@ fn scan_rows(
     let lows = plan.lows;
     let highs = plan.highs;
     let rows = shape.rows;
-    let mut counts = [0usize; 16];
+    let mut counts = [0usize; MOST_TESTS];
     let mut matches: usize = 0;
     let mut first = 0;
     while first < rows {
@@ -186,26 +187,26 @@ fn least(a: usize, b: usize) -> usize
 }
 
 // Adds a segment's counts to those so far.
-fn add_counts(counts: &mut [usize; 16], read: &[usize; 16])
-    requires { ⌜ (length (now counts) ≡ 16) × SmallSums (now counts) (now read) ⌝ }
-    ensures { λ _. ⌜ Swept (now (counts .entry)) (now (counts .exit)) 0 16
+fn add_counts(counts: &mut [usize; MOST_TESTS], read: &[usize; MOST_TESTS])
+    requires { ⌜ (length (now counts) ≡ mostTests) × SmallSums (now counts) (now read) ⌝ }
+    ensures { λ _. ⌜ Swept (now (counts .entry)) (now (counts .exit)) 0 mostTests
         (λ t. getD (now (counts .entry)) t 0 + getD (now (read .entry)) t 0) ⌝ }
 {
     let mut t = 0;
-    while t < 16 {
+    while t < MOST_TESTS {
         counts[t] = counts[t] + read[t];
         t = t + 1;
     }
 }
 
 // The sum of all counts.
-fn sum_of(counts: &[usize; 16]) -> usize
+fn sum_of(counts: &[usize; MOST_TESTS]) -> usize
     requires { ⌜ Small (now counts) ⌝ }
-    ensures { λ r. ⌜ r ≡ sum (λ t. getD (now (counts .entry)) t 0) (below 16) ⌝ }
+    ensures { λ r. ⌜ r ≡ sum (λ t. getD (now (counts .entry)) t 0) (below mostTests) ⌝ }
 {
     let mut total: usize = 0;
     let mut t = 0;
-    while t < 16 {
+    while t < MOST_TESTS {
         total = total + counts[t];
         t = t + 1;
     }

@@ -10,6 +10,7 @@ ghost use mathlib.Core.Path.{_≡_};
 ghost use mathlib.Core.List.{[], _∷_};
 ghost use Prim.Native.Nat.{ℕ, _*_, _%_, _<_, _≤_};
 ghost use lib.ListN.{getD, replicate};
+ghost use Rattle.limits.specs.Limits.{widest};
 ghost use Rattle.query.specs.Tests.{testsOf};
 
 const ROOM: usize = 2048;

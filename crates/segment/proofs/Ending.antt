@@ -11,12 +11,13 @@ use mathlib.Core.List.{List}
 use mathlib.Core.Bool.{Bool, true, false, not, _&&_, cond}
 use lib.Dec.{T}
 use lib.ListN.{getD}
+use Rattle.limits.specs.Limits.{mostSlices, longestSegment}
 use Rattle.basis.specs.Lists.{any, all, below}
 use Rattle.basis.proofs.Truth.{either, refuted}
 use Rattle.basis.proofs.Passing.{fails-before}
 use Rattle.basis.proofs.Members.{all-each-same, none-passes, any-from}
 use Rattle.basis.proofs.Runs.{in-below, below-holds, run-holds}
-use Rattle.codes.proofs.Width.{slices-at-most-four}
+use Rattle.codes.proofs.Width.{few-slices-of}
 use Rattle.schedule.specs.Schedule.{standing, counts, found}
 use Rattle.schedule.specs.Comparisons.{ruledOutWhen, trueWhen, comparing}
 use Rattle.schedule.proofs.EarlyEnd.{NoneCounts, counted-so-far, found-so-far}
@@ -73,7 +74,7 @@ ended-closed {g} {j} fit all-tests so-far =
     }
 
 -- after four slices every test has had its last
-pub ended-after-four : {g : Work} {j : ℕ} {standings in-rows cs : List ℕ} → FitWork g → 4 ≤ j →
+pub ended-after-four : {g : Work} {j : ℕ} {standings in-rows cs : List ℕ} → FitWork g → mostSlices ≤ j →
     Progress g j 0 standings in-rows cs true → Ended g standings in-rows cs
 ended-after-four {g} {j} fit four so-far =
     record {
@@ -81,7 +82,7 @@ ended-after-four {g} {j} fit four so-far =
       reached = so-far;
       none-more =
           by-slot g fit j
-          (λ t h. work.takes-within g t j (omega (arith, slices-at-most-four (testOf g t .width) (fit .narrow t h))));
+          (λ t h. work.takes-within g t j (omega (arith, few-slices-of (testOf g t .width) (fit .narrow t h))));
     }
 
 -- a row that is out is not found
@@ -98,7 +99,7 @@ module _ {g : Work} {standings in-rows left cs : List ℕ} (fit : FitWork g) (en
     (swept : Swept in-rows left 0 (g .n) (takenOutByAll failsKept (g .tests) (g .count) standings in-rows)) where
   -- slot t fails row k at the end
   abbrev fails-at : ℕ → ℕ → Bool
-  fails-at k t = failsKept (testAt (g .tests) t .comparison) (getD standings (t * 64 + k) 0)
+  fails-at k t = failsKept (testAt (g .tests) t .comparison) (getD standings (t * longestSegment + k) 0)
 
   -- every test is true of row k as it stands
   abbrev all-true : ℕ → Bool

@@ -11,6 +11,7 @@ use mathlib.Core.List.{List}
 use mathlib.Core.Bool.{Bool, true, false, not, _&&_, cond, and-true, and-false}
 use lib.Dec.{T, eqb, ltb, lt→ltb, not-T}
 use lib.ListN.{getD}
+use Rattle.limits.specs.Limits.{longestSegment}
 use Rattle.basis.specs.Lists.{any, sum, below}
 use Rattle.basis.proofs.Truth.{either, holds, fails, both}
 use Rattle.basis.proofs.Passing.{both-pass}
@@ -60,20 +61,20 @@ module _ {g : Work} {j t : ℕ} {standings in-rows cs : List ℕ} {closed : Bool
   keeps k = keepsOpen comparing (bytesIn (g .file)) (queryOf g) (testOf g t) j (g .first + k)
 
   -- the buffers say so
-  open-is-kept : (k : ℕ) → k < g .n → openIn standings (t * 64) in-rows k ≡ cond (keeps k) 1 0
+  open-is-kept : (k : ℕ) → k < g .n → openIn standings (t * longestSegment) in-rows k ≡ cond (keeps k) 1 0
   unfolding keepsOpen isOut standingTo
   open-is-kept k h = by (either (isOut g j k))
     where
-      by : (isOut g j k ≡ true) ⊎ (isOut g j k ≡ false) → openIn standings (t * 64) in-rows k ≡ cond (keeps k) 1 0
+      by : (isOut g j k ≡ true) ⊎ (isOut g j k ≡ false) → openIn standings (t * longestSegment) in-rows k ≡ cond (keeps k) 1 0
       by (inl out) =
           rw (so-far .in-still k h, out)
-          (out-is-not-open (eqb (getD standings (t * 64 + k) 0) 0) (equal (standingTo g t j k)))
+          (out-is-not-open (eqb (getD standings (t * longestSegment + k) 0) 0) (equal (standingTo g t j k)))
       by (inr still) =
           rw (so-far .in-still k h, so-far .to-do t (omega arith) next k h still, kept-equal (standingTo g t j k), still)
           (rw (and-true (equal (standingTo g t j k))))
 
   -- none is open
-  pub none-open : (total r : ℕ) → total ≡ sum (openIn standings (t * 64) in-rows) (below r) → r ≡ g .n → total ≤ 0 →
+  pub none-open : (total r : ℕ) → total ≡ sum (openIn standings (t * longestSegment) in-rows) (below r) → r ≡ g .n → total ≤ 0 →
       takes g t j ≡ false
   unfolding takes counts
   none-open total r summed whole none =
@@ -87,15 +88,15 @@ module _ {g : Work} {j t : ℕ} {standings in-rows cs : List ℕ} {closed : Bool
       let place : g .first + k ≡ row .0 = omega arith in
       let within : k < g .n = omega arith in
       let open-there : T (keeps k) = rw place (row .2) in
-      let one : openIn standings (t * 64) in-rows k ≡ 1 = open-is-kept k within ∙ rw (holds (keeps k) open-there) in
-      omega (arith, one, sum-term (openIn standings (t * 64) in-rows) (below-holds r k (omega arith)))))
+      let one : openIn standings (t * longestSegment) in-rows k ≡ 1 = open-is-kept k within ∙ rw (holds (keeps k) open-there) in
+      omega (arith, one, sum-term (openIn standings (t * longestSegment) in-rows) (below-holds r k (omega arith)))))
 
   -- some is open
-  pub some-open : (total r : ℕ) → total ≡ sum (openIn standings (t * 64) in-rows) (below r) → r ≡ g .n → 0 < total →
+  pub some-open : (total r : ℕ) → total ≡ sum (openIn standings (t * longestSegment) in-rows) (below r) → r ≡ g .n → 0 < total →
       j < slicesOf (testOf g t .width) → takes g t j ≡ true
   unfolding takes counts
   some-open total r summed whole some within =
-      let row = sum-gives (openIn standings (t * 64) in-rows) (below r) (omega arith) in
+      let row = sum-gives (openIn standings (t * longestSegment) in-rows) (below r) (omega arith) in
       let k = row .0 in
       let here : k < g .n = omega (arith, in-below r k (row .1)) in
       let open-there : T (keeps k) = some-is-true (keeps k) (omega (arith, row .2, open-is-kept k here)) in

@@ -13,10 +13,11 @@ use borrow.Author.Count.{below-more}
 use borrow.Author.Tests.{ltb-true, not-false}
 use lib.ListN.{length, getD, set}
 use lib.Seq.{getD-set-same, getD-set-other}
-use Rattle.codes.specs.Width.{widest, slicesOf, tooLarge}
+use Rattle.limits.specs.Limits.{widest, mostSlices}
+use Rattle.codes.specs.Width.{slicesOf, tooLarge}
 use Rattle.codes.specs.Bytes.{byteOf}
 use Rattle.codes.specs.Pad.{highOf}
-use Rattle.codes.proofs.Width.{slices-at-most-four}
+use Rattle.codes.proofs.Width.{few-slices-of}
 use Rattle.register.specs.declared.Shape.{Shape}
 use Rattle.register.specs.declared.Opened.the-variants.{Register}
 use Rattle.register.specs.File.{columnsIn, widthIn, offsetIn}
@@ -66,8 +67,8 @@ module _ (file : List ℕ) (tests : List Test) (t : ℕ) (offsets slices lows hi
   pub planned-one-more : (offset many : ℕ) (lows′ highs′ : List ℕ) → Planned file tests t offsets slices lows highs →
       ((u : ℕ) → u < t + 1 → widthAt u ≤ widest) → t < length offsets → t < length slices →
       offset ≡ offsetIn file (testAt tests t .column) → many ≡ slicesOf (widthAt t) →
-      Swept lows lows′ (t * 4) (slicesOf (widthAt t)) (λ j. byteOf (widthAt t) (literalAt t) j) →
-      Swept highs highs′ (t * 4) (slicesOf (widthAt t)) (λ j. highOf (widthAt t) j (byteOf (widthAt t) (literalAt t) j)) →
+      Swept lows lows′ (t * mostSlices) (slicesOf (widthAt t)) (λ j. byteOf (widthAt t) (literalAt t) j) →
+      Swept highs highs′ (t * mostSlices) (slicesOf (widthAt t)) (λ j. highOf (widthAt t) j (byteOf (widthAt t) (literalAt t) j)) →
       Planned file tests (t + 1) (set offsets t offset) (set slices t many) lows′ highs′
   planned-one-more offset many lows′ highs′ before small in-offsets in-slices from so-many low high =
       record {
@@ -81,16 +82,16 @@ module _ (file : List ℕ) (tests : List Test) (t : ℕ) (offsets slices lows hi
             (getD-set-same slices t many 0 in-slices ∙ so-many);
         from-low =
             λ u j h.
-            below-more (λ v. j < slicesOf (widthAt v) → getD lows′ (v * 4 + j) 0 ≡ byteOf (widthAt v) (literalAt v) j) t
-            (λ v earlier within. low .before (v * 4 + j) (in-front v j earlier within) ∙ before .from-low v j earlier within)
+            below-more (λ v. j < slicesOf (widthAt v) → getD lows′ (v * mostSlices + j) 0 ≡ byteOf (widthAt v) (literalAt v) j) t
+            (λ v earlier within. low .before (v * mostSlices + j) (in-front v j earlier within) ∙ before .from-low v j earlier within)
             (low .inside j) u h;
         to-high =
             λ u j h.
             below-more
-            (λ v. j < slicesOf (widthAt v) → getD highs′ (v * 4 + j) 0 ≡ highOf (widthAt v) j (byteOf (widthAt v) (literalAt v) j)) t
-            (λ v earlier within. high .before (v * 4 + j) (in-front v j earlier within) ∙ before .to-high v j earlier within)
+            (λ v. j < slicesOf (widthAt v) → getD highs′ (v * mostSlices + j) 0 ≡ highOf (widthAt v) j (byteOf (widthAt v) (literalAt v) j)) t
+            (λ v earlier within. high .before (v * mostSlices + j) (in-front v j earlier within) ∙ before .to-high v j earlier within)
             (high .inside j) u h;
       }
     where
-      in-front : (v j : ℕ) → v < t → j < slicesOf (widthAt v) → v * 4 + j < t * 4
-      in-front v j earlier within = omega (arith, slices-at-most-four (widthAt v) (small v (omega arith)))
+      in-front : (v j : ℕ) → v < t → j < slicesOf (widthAt v) → v * mostSlices + j < t * mostSlices
+      in-front v j earlier within = omega (arith, few-slices-of (widthAt v) (small v (omega arith)))

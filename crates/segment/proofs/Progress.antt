@@ -17,6 +17,7 @@ use lib.Dec.{ltb}
 use borrow.Author.Tests.{lt-ltb, le-ltb}
 use lib.ListN.{length, getD, set, replicate, length-set, length-replicate}
 use lib.Seq.{getD-set-same, getD-set-other}
+use Rattle.limits.specs.Limits.{mostTests, longestSegment, standingPlaces}
 use Rattle.basis.specs.Lists.{any, below}
 use Rattle.basis.proofs.Truth.{either}
 use Rattle.basis.proofs.Members.{any-each-same}
@@ -32,17 +33,17 @@ use Rattle.segment.proofs.Work as work
 use Rattle.segment.proofs.Work.{Work, FitWork, standingTo, isOut, takes, countedTo}
 
 pub record Progress (g : Work) (j t : ℕ) (standings in-rows counts : List ℕ) (closed : Bool) : Type 0 where
-  pub all-standings : length standings ≡ 1024
-  pub all-rows : length in-rows ≡ 64
-  pub all-counts : length counts ≡ 16
+  pub all-standings : length standings ≡ standingPlaces
+  pub all-rows : length in-rows ≡ longestSegment
+  pub all-counts : length counts ≡ mostTests
   -- a row that is not ruled out is 1, any other place 0
   pub in-still : (k : ℕ) → k < g .n → getD in-rows k 0 ≡ cond (isOut g j k) 0 1
   pub past-rows : (k : ℕ) → g .n ≤ k → getD in-rows k 0 ≡ 0
   -- the standings of such a row, to the tests before t after slice j and to the rest before it
   pub done : (u : ℕ) → u < t → (k : ℕ) → k < g .n → isOut g j k ≡ false →
-      getD standings (u * 64 + k) 0 ≡ kept (standingTo g u (j + 1) k)
+      getD standings (u * longestSegment + k) 0 ≡ kept (standingTo g u (j + 1) k)
   pub to-do : (u : ℕ) → t ≤ u → u < g .count → (k : ℕ) → k < g .n → isOut g j k ≡ false →
-      getD standings (u * 64 + k) 0 ≡ kept (standingTo g u j k)
+      getD standings (u * longestSegment + k) 0 ≡ kept (standingTo g u j k)
   -- the counts likewise, and 0 after the last test
   pub counted : (u : ℕ) → u < t → getD counts u 0 ≡ countedTo g u (j + 1)
   pub to-count : (u : ℕ) → t ≤ u → u < g .count → getD counts u 0 ≡ countedTo g u j
@@ -57,21 +58,21 @@ pub same-progress : {g : Work} {j t : ℕ} {standings standings′ in-rows count
 same-progress same-standings same-counts same-closed so-far = rw (same-standings, same-counts, same-closed) so-far
 
 -- before the first slice
-pub begun : {g : Work} {in-rows : List ℕ} → FitWork g → length in-rows ≡ 64 →
+pub begun : {g : Work} {in-rows : List ℕ} → FitWork g → length in-rows ≡ longestSegment →
     ((k : ℕ) → getD in-rows k 0 ≡ cond (ltb k (g .n)) 1 0) →
-    Progress g 0 0 (replicate 1024 0) in-rows (replicate 16 0) true
+    Progress g 0 0 (replicate standingPlaces 0) in-rows (replicate mostTests 0) true
 begun {g} fit whole ones =
     record {
-      all-standings = length-replicate {A = ℕ} 1024 0;
+      all-standings = length-replicate {A = ℕ} standingPlaces 0;
       all-rows = whole;
-      all-counts = length-replicate {A = ℕ} 16 0;
+      all-counts = length-replicate {A = ℕ} mostTests 0;
       in-still = λ k h. ones k ∙ rw (lt-ltb k (g .n) h, work.starts-in g fit k);
       past-rows = λ k h. ones k ∙ rw (le-ltb k (g .n) h);
       done = λ u h. absurd (omega arith);
-      to-do = λ u from h k l still. all-zero 1024 (u * 64 + k) ∙ rw (work.starts-equal g u k);
+      to-do = λ u from h k l still. all-zero standingPlaces (u * longestSegment + k) ∙ rw (work.starts-equal g u k);
       counted = λ u h. absurd (omega arith);
-      to-count = λ u from h. all-zero 16 u ∙ sym (work.counted-none g u);
-      after = λ u h. all-zero 16 u;
+      to-count = λ u from h. all-zero mostTests u ∙ sym (work.counted-none g u);
+      after = λ u h. all-zero mostTests u;
       none-took = λ e u h. absurd (omega arith);
     }
 
@@ -100,11 +101,11 @@ module _ {g : Work} {j t : ℕ} {standings in-rows counts : List ℕ} {closed : 
 
   -- test t takes slice j, and its standings and its count go on
   pub taken : {stepped : List ℕ} {f : ℕ → ℕ} {long sum : ℕ} → FitWork g → takes g t j ≡ true →
-      Swept standings stepped (t * 64) long f → long ≡ g .n →
-      ((k : ℕ) → k < g .n → getD standings (t * 64 + k) 0 ≡ kept (standingTo g t j k) → f k ≡ kept (standingTo g t (j + 1) k)) →
+      Swept standings stepped (t * longestSegment) long f → long ≡ g .n →
+      ((k : ℕ) → k < g .n → getD standings (t * longestSegment + k) 0 ≡ kept (standingTo g t j k) → f k ≡ kept (standingTo g t (j + 1) k)) →
       sum ≡ getD counts t 0 + g .n → Progress g j (t + 1) stepped in-rows (set counts t sum) false
   taken {stepped} {f} {long} {sum} fit some part whole steps added =
-      let swept : Swept standings stepped (t * 64) (g .n) f = rw whole at part in
+      let swept : Swept standings stepped (t * longestSegment) (g .n) f = rw whole at part in
       let few = fit .few in
       let short = fit .short in
       record {
@@ -115,9 +116,9 @@ module _ {g : Work} {j t : ℕ} {standings in-rows counts : List ℕ} {closed : 
         past-rows = so-far .past-rows;
         done =
             below-more _ t
-            (λ u h k l still. swept .before (u * 64 + k) (omega arith) ∙ so-far .done u h k l still)
+            (λ u h k l still. swept .before (u * longestSegment + k) (omega arith) ∙ so-far .done u h k l still)
             (λ k h still. swept .inside k h ∙ steps k h (so-far .to-do t (omega arith) next k h still));
-        to-do = λ u from h k l still. swept .behind (u * 64 + k) (omega arith) ∙ so-far .to-do u (omega arith) h k l still;
+        to-do = λ u from h k l still. swept .behind (u * longestSegment + k) (omega arith) ∙ so-far .to-do u (omega arith) h k l still;
         counted =
             below-more _ t
             (λ u h. getD-set-other counts t u sum 0 (λ e. omega arith) ∙ so-far .counted u h)
@@ -154,7 +155,7 @@ next-slice {g} {j} {t} {standings} {in-rows} {left} {counts} fit all so-far swep
     }
   where
     rules : ℕ → ℕ → Bool
-    rules k t = rulesOutKept (testAt (g .tests) t .comparison) (getD standings (t * 64 + k) 0)
+    rules k t = rulesOutKept (testAt (g .tests) t .comparison) (getD standings (t * longestSegment + k) 0)
 
     was-in : (k : ℕ) → isOut g (j + 1) k ≡ false → (isOut g j k ≡ true) ⊎ (isOut g j k ≡ false) → isOut g j k ≡ false
     was-in k still (inl out) = absurd (true≢false (sym (work.out-next g j k out) ∙ still))

@@ -21,7 +21,8 @@ use Rattle.basis.specs.Lists.{any, sum, run, below}
 use Rattle.basis.proofs.Truth.{holds, passes, fails, refuted}
 use Rattle.basis.proofs.Lists.{length-run, sum-one-more, sum-at-most}
 use Rattle.basis.proofs.Runs.{run-holds}
-use Rattle.codes.specs.Width.{widest, slicesOf}
+use Rattle.limits.specs.Limits.{widest, mostTests, longestSegment}
+use Rattle.codes.specs.Width.{slicesOf}
 use Rattle.codes.specs.Bytes.{byteOf}
 use Rattle.codes.specs.Pad.{highOf}
 use Rattle.codes.specs.Order.{andThen, against}
@@ -77,9 +78,9 @@ countedTo g t j = sum (λ i. cond (takes g t i) (length (rowsOf g)) 0) (below j)
 
 -- few tests and rows; columns with a width, and literals that fit them
 pub record FitWork (g : Work) : Type 0 where
-  pub few : g .count ≤ 16
+  pub few : g .count ≤ mostTests
   pub there : g .count ≤ length (g .tests)
-  pub short : g .n ≤ 64
+  pub short : g .n ≤ longestSegment
   pub some : (t : ℕ) → t < g .count → 0 < testOf g t .width
   pub narrow : (t : ℕ) → t < g .count → testOf g t .width ≤ widest
   pub literals : (t : ℕ) → t < g .count → literalOf (testOf g t .comparison) < 2 ^ testOf g t .width
@@ -156,8 +157,8 @@ counted-one-more g t j =
     ∙ ap (λ (rows : ℕ). countedTo g t j + cond (takes g t j) rows 0) (length-run (g .first) (g .n)))
 
 -- four slices at most of 64 rows at most
-pub counted-few : (g : Work) (t j : ℕ) → g .n ≤ 64 → countedTo g t j ≤ 64 * j
+pub counted-few : (g : Work) (t j : ℕ) → g .n ≤ longestSegment → countedTo g t j ≤ longestSegment * j
 unfolding countedTo
 counted-few g t j short =
-    sum-at-most (λ i. cond (takes g t i) (length (rowsOf g)) 0) 64 j
+    sum-at-most (λ i. cond (takes g t i) (length (rowsOf g)) 0) longestSegment j
     (λ i h. omega (arith, adds-at-most (takes g t i) (length (rowsOf g)), length-run (g .first) (g .n)))

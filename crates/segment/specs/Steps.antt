@@ -5,7 +5,8 @@ use mathlib.Core.List.{List}
 use mathlib.Core.Bool.{false, cond}
 use lib.ListN.{length, getD}
 use Rattle.basis.specs.Lists.{run}
-use Rattle.codes.specs.Width.{widest, slicesOf, tooLarge}
+use Rattle.limits.specs.Limits.{widest, mostSlices, mostTests, longestSegment}
+use Rattle.codes.specs.Width.{slicesOf, tooLarge}
 use Rattle.codes.specs.Bytes.{byteOf}
 use Rattle.codes.specs.Pad.{highOf}
 use Rattle.register.specs.declared.Shape.{Shape}
@@ -14,7 +15,7 @@ use Rattle.register.specs.File.{widthIn, offsetIn}
 use Rattle.register.specs.Opening.{openedOf}
 use Rattle.query.specs.declared.Test.{Test}
 use Rattle.query.specs.declared.Query.{Query}
-use Rattle.query.specs.Tests.{mostTests, literalOf, testAt}
+use Rattle.query.specs.Tests.{literalOf, testAt}
 use Rattle.schedule.specs.Schedule.{countIn, found}
 use Rattle.schedule.specs.Comparisons.{comparing}
 use Rattle.segment.specs.declared.Segment.{Segment}
@@ -37,9 +38,9 @@ pub record Planned (file : List ℕ) (tests : List Test) (count : ℕ) (offsets 
   pub at-offset : (t : ℕ) → t < count → getD offsets t 0 ≡ offsetIn file (testAt tests t .column)
   pub so-many : (t : ℕ) → t < count → getD slices t 0 ≡ slicesOf (widthIn file (testAt tests t .column))
   pub from-low : (t j : ℕ) → t < count → j < slicesOf (widthIn file (testAt tests t .column)) →
-      getD lows (t * 4 + j) 0 ≡ byteOf (widthIn file (testAt tests t .column)) (literalOf (testAt tests t .comparison)) j
+      getD lows (t * mostSlices + j) 0 ≡ byteOf (widthIn file (testAt tests t .column)) (literalOf (testAt tests t .comparison)) j
   pub to-high : (t j : ℕ) → t < count → j < slicesOf (widthIn file (testAt tests t .column)) →
-      getD highs (t * 4 + j) 0 ≡
+      getD highs (t * mostSlices + j) 0 ≡
       highOf (widthIn file (testAt tests t .column)) j
       (byteOf (widthIn file (testAt tests t .column)) (literalOf (testAt tests t .comparison)) j)
 
@@ -47,7 +48,7 @@ pub record Planned (file : List ℕ) (tests : List Test) (count : ℕ) (offsets 
 pub record SegmentFit (file : List ℕ) (rows first n : ℕ) (tests : List Test) (count : ℕ) : Type 0 where
   pub columns : ℕ
   pub judged : Judged file (record { rows = rows; columns = columns }) tests count
-  pub short : n ≤ 64
+  pub short : n ≤ longestSegment
   pub within : first + n ≤ rows
 
 -- a query, by its slots
@@ -63,4 +64,4 @@ pub record SegmentScanned (file : List ℕ) (tests : List Test) (count first n :
       getD (segment .counts) t 0 ≡
       countIn comparing (bytesIn file) (testsIn file (asked tests count)) (widened file (testAt tests t)) (run first n)
   pub after : (t : ℕ) → count ≤ t → getD (segment .counts) t 0 ≡ 0
-  pub whole : (length (segment .found) ≡ 64) × (length (segment .counts) ≡ mostTests)
+  pub whole : (length (segment .found) ≡ longestSegment) × (length (segment .counts) ≡ mostTests)

@@ -1,5 +1,10 @@
 // Scans one segment of a register: which of its rows meet every test of a query, and how many bytes each
 // test needed. What the query asks of each slice is planned once for all segments.
+use limits::LONGEST_SEGMENT;
+use limits::MOST_SLICES;
+use limits::MOST_TESTS;
+use limits::PLAN_PLACES;
+use limits::STANDING_PLACES;
 use query::Test;
 use register::Shape;
 use standings::in_rows;
@@ -10,6 +15,7 @@ use standings::step;
 ghost use mathlib.Core.Path.{_≡_};
 ghost use Prim.Native.Nat.{_+_, _*_, _≤_, _<_};
 ghost use lib.ListN.{length};
+ghost use Rattle.limits.specs.Limits.{mostSlices, planPlaces};
 ghost use Rattle.codes.specs.Width.{slicesOf};
 ghost use Rattle.codes.specs.Bytes.{byteOf};
 ghost use Rattle.codes.specs.Pad.{highOf};
@@ -19,27 +25,27 @@ ghost use Rattle.segment.specs.Steps.{FitLiteral, Judged, Planned, Segme
 // The plan of a query, made once: where each test's column starts and how many slices it has, and the
 // low and high byte of its literal in each slice, four to a test.
 pub struct Plan {
-    pub offsets: [usize; 16],
-    pub slices: [usize; 16],
-    pub lows: [u8; 64],
-    pub highs: [u8; 64],
+    pub offsets: [usize; MOST_TESTS],
+    pub slices: [usize; MOST_TESTS],
+    pub lows: [u8; PLAN_PLACES],
+    pub highs: [u8; PLAN_PLACES],
 }
 
 // A segment scanned: 1 for each row that is found, and each test's count.
 pub struct Segment {
-    pub found: [u8; 64],
-    pub counts: [usize; 16],
+    pub found: [u8; LONGEST_SEGMENT],
+    pub counts: [usize; MOST_TESTS],
 }
 
 // Makes the plan of a query.
-pub fn plan_of(file: &[u8], shape: Shape, tests: [Test; 16], count: usize) -> Plan
+pub fn plan_of(file: &[u8], shape: Shape, tests: [Test; MOST_TESTS], count: usize) -> Plan
     requires { ⌜ Judged (now file) shape tests count ⌝ }
     ensures { λ r. ⌜ Planned (now (file .entry)) tests count (r .offsets) (r .slices) (r .lows) (r .highs) ⌝ }
 {
-    let mut offsets = [0usize; 16];
-    let mut slices = [0usize; 16];
-    let mut lows = [0u8; 64];
-    let mut highs = [0u8; 64];
+    let mut offsets = [0usize; MOST_TESTS];
+    let mut slices = [0usize; MOST_TESTS];
+    let mut lows = [0u8; PLAN_PLACES];
+    let mut highs = [0u8; PLAN_PLACES];
     let mut t = 0;
     while t < count {
         let test = tests[t];
@@ -49,7 +55,7 @@ pub fn plan_of(file: &[u8], shape: Shape, tests: [Test; 16], count: usize) -> Pl
         let literal = query::literal_of(comparison);
         offsets[t] = register::offset_at(file, shape, column);
         slices[t] = codes::slices_of(width);
-        plan_bytes(width, literal, &mut lows, &mut highs, t * 4);
+        plan_bytes(width, literal, &mut lows, &mut highs, t * MOST_SLICES);
         t = t + 1;
     }
     Plan {
@@ -61,8 +67,14 @@ pub fn plan_of(file: &[u8], shape: Shape, tests: [Test; 16], count: usize) -> Pl
 }
 
 // Puts the bytes of each slice between which a row counts as equal to the literal, from a base on.
-fn plan_bytes(width: u8, literal: u64, lows: &mut [u8; 64], highs: &mut [u8; 64], base: usize)
-    requires { ⌜ FitLiteral width literal × (base + 4 ≤ 64) × (length (now lows) ≡ 64) × (length (now highs) ≡ 64) ⌝ }
+fn plan_bytes(
+    width: u8,
+    literal: u64,
+    lows: &mut [u8; PLAN_PLACES],
+    highs: &mut [u8; PLAN_PLACES],
+    base: usize,
+)
+    requires { ⌜ FitLiteral width literal × (base + mostSlices ≤ planPlaces) × (length (now lows) ≡ planPlaces) × (length (now highs) ≡ planPlaces) ⌝ }
     ensures low { λ _. ⌜ Swept (now (lows .entry)) (now (lows .exit)) base (slicesOf width) (λ j. byteOf width literal j) ⌝ }
     ensures high { λ _. ⌜ Swept (now (highs .entry)) (now (highs .exit)) base (slicesOf width) (λ j. highOf width j (byteOf width literal j)) ⌝ }
 {
@@ -101,27 +113,27 @@ pub fn scan_segment(
     rows: usize,
     first: usize,
     n: usize,
-    tests: [Test; 16],
+    tests: [Test; MOST_TESTS],
     count: usize,
-    offsets: &[usize; 16],
-    slices: &[usize; 16],
-    lows: &[u8; 64],
-    highs: &[u8; 64],
+    offsets: &[usize; MOST_TESTS],
+    slices: &[usize; MOST_TESTS],
+    lows: &[u8; PLAN_PLACES],
+    highs: &[u8; PLAN_PLACES],
 ) -> Segment
     requires { ⌜ SegmentFit (now file) rows first n tests count ⌝ }
     requires { ⌜ Planned (now file) tests count (now offsets) (now slices) (now lows) (now highs) ⌝ }
     ensures { λ r. ⌜ SegmentScanned (now (file .entry)) tests count first n r ⌝ }
 {
-    let mut standings = [0u8; 1024];
+    let mut standings = [0u8; STANDING_PLACES];
     let mut inside = in_rows(n);
-    let mut counts = [0usize; 16];
+    let mut counts = [0usize; MOST_TESTS];
     let mut j = 0;
-    'slices: while j < 4 {
+    'slices: while j < MOST_SLICES {
         let mut closed = true;
         let mut t = 0;
         'tests: while t < count {
             if j < slices[t] {
-                let base = t * 64;
+                let base = t * LONGEST_SEGMENT;
                 let mut open = 0u8;
                 let mut r = 0;
                 'rows: while r < n {
@@ -130,8 +142,8 @@ pub fn scan_segment(
                 }
                 if 0 < open {
                     let from = offsets[t] + j * rows + first;
-                    let low = lows[t * 4 + j];
-                    let high = highs[t * 4 + j];
+                    let low = lows[t * MOST_SLICES + j];
+                    let high = highs[t * MOST_SLICES + j];
                     step(&file[from..from + n], &mut standings, base, low, high);
                     counts[t] = counts[t] + n;
                     closed = false;

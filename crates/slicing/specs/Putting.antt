@@ -3,13 +3,14 @@ use Prim.Native.Nat.{ℕ, _+_, _*_, _≤_, _<_}
 use mathlib.Core.Path.{_≡_}
 use mathlib.Core.List.{List}
 use lib.ListN.{length, getD}
+use Rattle.limits.specs.Limits.{blockRows}
 use Rattle.register.specs.Layout.{bytesBefore}
 use Rattle.judging.specs.Table.{widthOf}
 
 -- a block of rows, and a buffer with room for the body
 pub record FitBlock (rows : ℕ) (widths : List ℕ) (first n : ℕ) (out : List ℕ) : Type 0 where
   pub within : first + n ≤ rows
-  pub few : n ≤ 256
+  pub few : n ≤ blockRows
   pub room : bytesBefore rows (widthOf widths) (length widths) ≤ length out
 
 -- a buffer whose front is becoming a body: what was right stays right, the rows from `first` to before `past` are right in the slices

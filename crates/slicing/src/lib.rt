@@ -1,8 +1,10 @@
 // The body of a file: slices made of codes that stand row after row, by blocks of rows.
+use limits::BLOCK_ROWS;
 ghost use mathlib.Core.Path.{_≡_};
 ghost use mathlib.Core.List.{map};
 ghost use Prim.Native.Nat.{_+_, _*_, _/_, _%_, _^_, _≤_, _<_, min};
 ghost use lib.ListN.{length, getD};
+ghost use Rattle.limits.specs.Limits.{mostColumns, mostSlices, blockRows};
 ghost use Rattle.basis.specs.Buffers.{laid};
 ghost use Rattle.basis.specs.Lists.{below};
 ghost use Rattle.codes.specs.Width.{slicesOf};
@@ -12,9 +14,6 @@ ghost use Rattle.judging.specs.Table.{widthOf, codeOf, FitWidths, FitCodes};
 ghost use Rattle.slicing.specs.Body.{bodyOf};
 ghost use Rattle.judging.specs.Judging.{Holds};
 ghost use Rattle.slicing.specs.Putting.{FitBlock, Put};
-
-// So many rows are written at a time.
-const BLOCK: usize = 256;
 
 // Writes the slices of all columns to the front, by blocks of rows, so that the codes are gone
 // through once.
@@ -34,12 +33,12 @@ pub fn write_body(rows: usize, widths: &[u8], codes: &[u64], out: &mut [u8])
 
 // How many of the rows that are left the next block has.
 fn rows_in_block(left: usize) -> usize
-    ensures { λ r. ⌜ r ≡ min left 256 ⌝ }
+    ensures { λ r. ⌜ r ≡ min left blockRows ⌝ }
 {
-    if left < BLOCK {
+    if left < BLOCK_ROWS {
         return left;
     }
-    BLOCK
+    BLOCK_ROWS
 }
 
 // Writes the bytes of a block of rows, column after column.
@@ -74,11 +73,11 @@ fn write_block_column(
     requires { ⌜ FitWidths (now widths) ⌝ }
     requires { ⌜ FitCodes rows (now widths) (now codes) ⌝ }
     requires { ⌜ FitBlock rows (now widths) first n (now out) ⌝ }
-    requires { ⌜ (column < length (now widths)) × (slices ≡ slicesBefore (widthOf (now widths)) column) × (slices ≤ 128) ⌝ }
+    requires { ⌜ (column < length (now widths)) × (slices ≡ slicesBefore (widthOf (now widths)) column) × (slices ≤ mostSlices * mostColumns) ⌝ }
     ensures { λ _. ⌜ Put rows (bodyOf rows (now (widths .entry)) (now (codes .entry))) (now (out .entry)) (now (out .exit))
         first (first + n) slices (slices + slicesOf (widthOf (now (widths .entry)) column)) ⌝ }
 {
-    let mut stored = [0u32; BLOCK];
+    let mut stored = [0u32; BLOCK_ROWS];
     copy_stored(rows, widths, codes, column, first, n, &mut stored);
     let own = codes::slices_of(widths[column]);
     let mut slice = 0;
@@ -97,11 +96,11 @@ fn copy_stored(
     column: usize,
     first: usize,
     n: usize,
-    stored: &mut [u32; BLOCK],
+    stored: &mut [u32; BLOCK_ROWS],
 )
     requires { ⌜ FitWidths (now widths) ⌝ }
     requires { ⌜ FitCodes rows (now widths) (now codes) ⌝ }
-    requires { ⌜ (column < length (now widths)) × (first + n ≤ rows) × (n ≤ 256) × (length (now stored) ≡ 256) ⌝ }
+    requires { ⌜ (column < length (now widths)) × (first + n ≤ rows) × (n ≤ blockRows) × (length (now stored) ≡ blockRows) ⌝ }
     ensures { λ _. ⌜ Holds (λ k. storedOf (widthOf (now (widths .entry)) column)
         (codeOf (now (widths .entry)) (now (codes .entry)) (first + k) column)) n (now (stored .exit)) ⌝ }
 {
@@ -117,8 +116,8 @@ fn copy_stored(
 
 // Writes a byte of each of the first n numbers from a place on: the one that stands so many bits
 // from the end.
-fn write_run(stored: &[u32; BLOCK], n: usize, shift: usize, out: &mut [u8], at: usize)
-    requires { ⌜ (n ≤ 256) × (shift < 32) × (at + n ≤ length (now out)) ⌝ }
+fn write_run(stored: &[u32; BLOCK_ROWS], n: usize, shift: usize, out: &mut [u8], at: usize)
+    requires { ⌜ (n ≤ blockRows) × (shift < 32) × (at + n ≤ length (now out)) ⌝ }
     ensures { λ _. ⌜ now (out .exit) ≡ laid (now (out .entry)) at
         (map (λ k. getD (now (stored .entry)) k 0 / 2 ^ shift % 256) (below n)) ⌝ }
 {

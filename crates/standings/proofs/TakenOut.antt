@@ -9,6 +9,7 @@ use mathlib.Core.Path.{_≡_, refl}
 use mathlib.Core.List.{List}
 use mathlib.Core.Bool.{Bool, true, false, _||_}
 use lib.ListN.{getD}
+use Rattle.limits.specs.Limits.{longestSegment}
 use Rattle.basis.specs.Lists.{any, below}
 use Rattle.basis.proofs.Lists.{any-one-more}
 use Rattle.query.specs.declared.Comparison.{Comparison}
@@ -34,10 +35,10 @@ none-taken-out rule tests standings in-still n =
 module _ (rule : Comparison → ℕ → Bool) (tests : List Test) (standings old : List ℕ) (n : ℕ) where
   -- one test more takes out what it takes out of what the tests before it have left
   pub one-more-takes-out : {left next : List ℕ} (t : ℕ) → Swept old left 0 n (takenOutByAll rule tests t standings old) →
-      Swept left next 0 n (takenOut rule (testAt tests t .comparison) standings (t * 64) left) →
+      Swept left next 0 n (takenOut rule (testAt tests t .comparison) standings (t * longestSegment) left) →
       Swept old next 0 n (takenOutByAll rule tests (t + 1) standings old)
   one-more-takes-out t so-far more =
       swept-alike (swept-twice so-far more)
       (λ k h.
-      let says : ℕ → Bool = λ u. rule (testAt tests u .comparison) (getD standings (u * 64 + k) 0) in
+      let says : ℕ → Bool = λ u. rule (testAt tests u .comparison) (getD standings (u * longestSegment + k) 0) in
       rw (add-one t, any-one-more says t, swept-from-front so-far k h) (left-by-either (any says (below t)) (says t) (getD old k 0)))

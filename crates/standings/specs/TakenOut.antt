@@ -4,6 +4,7 @@ use mathlib.Core.List.{List}
 use mathlib.Core.Bool.{Bool}
 use lib.Dec.{eqb}
 use lib.ListN.{getD}
+use Rattle.limits.specs.Limits.{longestSegment}
 use Rattle.basis.specs.Lists.{any, below}
 use Rattle.query.specs.declared.Comparison.{Comparison}
 use Rattle.query.specs.declared.Test.{Test}
@@ -21,4 +22,4 @@ takenOut rule comparison standings base in-still k = leftRow (rule comparison (g
 -- the rows that the first tests take out; the standings to test t are kept from 64 x t on
 abbrev pub takenOutByAll : (Comparison → ℕ → Bool) → List Test → ℕ → List ℕ → List ℕ → ℕ → ℕ
 takenOutByAll rule tests count standings in-still k =
-    leftRow (any (λ t. rule (testAt tests t .comparison) (getD standings (t * 64 + k) 0)) (below count)) (getD in-still k 0)
+    leftRow (any (λ t. rule (testAt tests t .comparison) (getD standings (t * longestSegment + k) 0)) (below count)) (getD in-still k 0)

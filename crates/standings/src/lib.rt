@@ -1,6 +1,9 @@
 // Row work: small functions whose result is stored without a condition, so that a loop over them
 // becomes vectors. A standing is a byte (0 equal so far, 1 less, 2 greater), and so is whether a row is
 // still in (1 or 0).
+use limits::LONGEST_SEGMENT;
+use limits::MOST_TESTS;
+use limits::STANDING_PLACES;
 use query::Comparison;
 use query::Test;
 ghost use mathlib.Core.Path.{_≡_};
@@ -8,6 +11,7 @@ ghost use Prim.Native.Nat.{ℕ, _+_, _*_, _≤_, _<_};
 ghost use mathlib.Core.Bool.{cond};
 ghost use lib.Dec.{ltb};
 ghost use lib.ListN.{length, getD};
+ghost use Rattle.limits.specs.Limits.{mostTests, longestSegment, standingPlaces};
 ghost use Rattle.standings.specs.Standings.{steppedRow, openRow, rulesOutKept, failsKept};
 ghost use Rattle.standings.specs.Sweeps.{Swept};
 ghost use Rattle.standings.specs.TakenOut.{takenOutBy, takenOut, takenOutByAll};
@@ -44,11 +48,11 @@ fn left_row(standing: u8, bad: u8, inside: u8) -> u8
 }
 
 // 1 for each of n rows, 0 for every place after them.
-pub fn in_rows(n: usize) -> [u8; 64]
-    requires { ⌜ n ≤ 64 ⌝ }
-    ensures { λ r. ⌜ (length r ≡ 64) × ((k : ℕ) → getD r k 0 ≡ cond (ltb k n) 1 0) ⌝ }
+pub fn in_rows(n: usize) -> [u8; LONGEST_SEGMENT]
+    requires { ⌜ n ≤ longestSegment ⌝ }
+    ensures { λ r. ⌜ (length r ≡ longestSegment) × ((k : ℕ) → getD r k 0 ≡ cond (ltb k n) 1 0) ⌝ }
 {
-    let mut inside = [0u8; 64];
+    let mut inside = [0u8; LONGEST_SEGMENT];
     let mut r = 0;
     while r < n {
         inside[r] = 1;
@@ -58,8 +62,8 @@ pub fn in_rows(n: usize) -> [u8; 64]
 }
 
 // Takes one slice for one test: the standings from a base on, by the part's bytes.
-pub fn step(part: &[u8], standings: &mut [u8; 1024], base: usize, low: u8, high: u8)
-    requires { ⌜ (base + length (now part) ≤ 1024) × (length (now standings) ≡ 1024) ⌝ }
+pub fn step(part: &[u8], standings: &mut [u8; STANDING_PLACES], base: usize, low: u8, high: u8)
+    requires { ⌜ (base + length (now part) ≤ standingPlaces) × (length (now standings) ≡ standingPlaces) ⌝ }
     ensures { λ _. ⌜ Swept (now (standings .entry)) (now (standings .exit)) base (length (now (part .entry)))
         (λ k. steppedRow (getD (now (standings .entry)) (base + k) 0) low high (getD (now (part .entry)) k 0)) ⌝ }
 {
@@ -72,8 +76,14 @@ pub fn step(part: &[u8], standings: &mut [u8; 1024], base: usize, low: u8, high:
 }
 
 // Takes out the rows whose standing is the bad one.
-fn take_out(standings: &[u8; 1024], base: usize, inside: &mut [u8; 64], n: usize, bad: u8)
-    requires { ⌜ (base + n ≤ 1024) × (n ≤ 64) × (length (now inside) ≡ 64) ⌝ }
+fn take_out(
+    standings: &[u8; STANDING_PLACES],
+    base: usize,
+    inside: &mut [u8; LONGEST_SEGMENT],
+    n: usize,
+    bad: u8,
+)
+    requires { ⌜ (base + n ≤ standingPlaces) × (n ≤ longestSegment) × (length (now inside) ≡ longestSegment) ⌝ }
     ensures { λ _. ⌜ Swept (now (inside .entry)) (now (inside .exit)) 0 n
         (λ k. takenOutBy (getD (now (standings .entry)) (base + k) 0) bad (getD (now (inside .entry)) k 0)) ⌝ }
 {
@@ -87,12 +97,12 @@ fn take_out(standings: &[u8; 1024], base: usize, inside: &mut [u8; 64], n: usize
 // Takes out the rows that a test rules out.
 fn rule(
     comparison: Comparison,
-    standings: &[u8; 1024],
+    standings: &[u8; STANDING_PLACES],
     base: usize,
-    inside: &mut [u8; 64],
+    inside: &mut [u8; LONGEST_SEGMENT],
     n: usize,
 )
-    requires { ⌜ (base + n ≤ 1024) × (n ≤ 64) × (length (now inside) ≡ 64) ⌝ }
+    requires { ⌜ (base + n ≤ standingPlaces) × (n ≤ longestSegment) × (length (now inside) ≡ longestSegment) ⌝ }
     ensures { λ _. ⌜ Swept (now (inside .entry)) (now (inside .exit)) 0 n
         (takenOut rulesOutKept comparison (now (standings .entry)) base (now (inside .entry))) ⌝ }
 {
@@ -111,13 +121,13 @@ fn rule(
 
 // Takes out the rows that some test rules out.
 pub fn rule_all(
-    tests: [Test; 16],
+    tests: [Test; MOST_TESTS],
     count: usize,
-    standings: &[u8; 1024],
-    inside: &mut [u8; 64],
+    standings: &[u8; STANDING_PLACES],
+    inside: &mut [u8; LONGEST_SEGMENT],
     n: usize,
 )
-    requires { ⌜ (count ≤ 16) × (n ≤ 64) × (length (now inside) ≡ 64) ⌝ }
+    requires { ⌜ (count ≤ mostTests) × (n ≤ longestSegment) × (length (now inside) ≡ longestSegment) ⌝ }
     ensures { λ _. ⌜ Swept (now (inside .entry)) (now (inside .exit)) 0 n
         (takenOutByAll rulesOutKept tests count (now (standings .entry)) (now (inside .entry))) ⌝ }
 {
@@ -125,7 +135,7 @@ pub fn rule_all(
     while t < count {
         let test = tests[t];
         let comparison = test.comparison;
-        rule(comparison, standings, t * 64, inside, n);
+        rule(comparison, standings, t * LONGEST_SEGMENT, inside, n);
         t = t + 1;
     }
 }
@@ -133,12 +143,12 @@ pub fn rule_all(
 // Takes out the rows that are equal to the end, where that is no match.
 fn last(
     comparison: Comparison,
-    standings: &[u8; 1024],
+    standings: &[u8; STANDING_PLACES],
     base: usize,
-    inside: &mut [u8; 64],
+    inside: &mut [u8; LONGEST_SEGMENT],
     n: usize,
 )
-    requires { ⌜ (base + n ≤ 1024) × (n ≤ 64) × (length (now inside) ≡ 64) ⌝ }
+    requires { ⌜ (base + n ≤ standingPlaces) × (n ≤ longestSegment) × (length (now inside) ≡ longestSegment) ⌝ }
     ensures { λ _. ⌜ Swept (now (inside .entry)) (now (inside .exit)) 0 n
         (takenOut failsKept comparison (now (standings .entry)) base (now (inside .entry))) ⌝ }
 {
@@ -155,13 +165,13 @@ fn last(
 // The same for all tests. This and `rule_all` are two loops, each with one caller, so that both become
 // part of it; one loop for both was slower with one test and short segments.
 pub fn last_all(
-    tests: [Test; 16],
+    tests: [Test; MOST_TESTS],
     count: usize,
-    standings: &[u8; 1024],
-    inside: &mut [u8; 64],
+    standings: &[u8; STANDING_PLACES],
+    inside: &mut [u8; LONGEST_SEGMENT],
     n: usize,
 )
-    requires { ⌜ (count ≤ 16) × (n ≤ 64) × (length (now inside) ≡ 64) ⌝ }
+    requires { ⌜ (count ≤ mostTests) × (n ≤ longestSegment) × (length (now inside) ≡ longestSegment) ⌝ }
     ensures { λ _. ⌜ Swept (now (inside .entry)) (now (inside .exit)) 0 n
         (takenOutByAll failsKept tests count (now (standings .entry)) (now (inside .entry))) ⌝ }
 {
@@ -169,7 +179,7 @@ pub fn last_all(
     while t < count {
         let test = tests[t];
         let comparison = test.comparison;
-        last(comparison, standings, t * 64, inside, n);
+        last(comparison, standings, t * LONGEST_SEGMENT, inside, n);
         t = t + 1;
     }
 }

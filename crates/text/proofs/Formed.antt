@@ -15,8 +15,8 @@ use mathlib.Core.List.{
   List·Memᴰ·append-cases,
   List·Memᴰ·eq-of-singleton,
 }
+use Rattle.limits.specs.Limits.{decimalLimit}
 use Rattle.query.specs.declared.Test.{Test}
-use Rattle.text.specs.Decimals.{decimalLimit}
 use Rattle.text.specs.Lines.{SmallTest}
 use Rattle.text.specs.Reading.{Formed}
 

@@ -15,11 +15,12 @@ use mathlib.Core.Bool.{cond}
 use mathlib.Core.List.{List, [], _∷_, _++_, map, flatten, append-nil, append-assoc, append-cancel-left}
 use lib.Dec.{eqb}
 use lib.ListN.{length, getD, length-append}
+use Rattle.limits.specs.Limits.{decimalLimit}
 use Rattle.query.specs.declared.Comparison.{Comparison}
 use Rattle.query.specs.declared.Comparison.the-variants.{Less, AtMost, More, AtLeast, Equal, Differs}
 use Rattle.query.specs.declared.Test.{Test}
 use Rattle.query.specs.Tests.{literalOf}
-use Rattle.text.specs.Decimals.{decimal, decimalLimit}
+use Rattle.text.specs.Decimals.{decimal}
 use Rattle.text.specs.Lines.{space, lineFeed, segmentWord, signOf, segmentLine, testLine, textOf, SmallTest}
 use Rattle.text.proofs.Words.{AllOf, same-word}
 use Rattle.text.proofs.Decimals.{decimal-some, same-decimal}

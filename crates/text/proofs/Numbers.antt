@@ -14,11 +14,12 @@ use native.Mathlib.Omega.{arith}
 use mathlib.Core.Path.{_≡_, refl, sym, ap, ap₂, subst, _∙_}
 use mathlib.Core.List.{List, [], _∷_, _++_, append-assoc}
 use lib.ListN.{length, getD, drop, length-append, drop-of-length-le, List·getD-append}
+use Rattle.limits.specs.Limits.{decimalLimit}
 use Rattle.text.specs.declared.After.{After}
 use Rattle.text.specs.declared.After.the-variants.{Space, LineFeed}
 use Rattle.text.specs.declared.Number.{Number}
 use Rattle.text.specs.declared.Number.the-variants.{Value, NoNumber}
-use Rattle.text.specs.Decimals.{digit, decimal, decimalLimit}
+use Rattle.text.specs.Decimals.{digit, decimal}
 use Rattle.text.specs.Steps.{afterByte, endedBy, NumberAt, DigitsAt}
 use Rattle.text.proofs.Words.{byte-of-word}
 use Rattle.text.proofs.Decimals.{

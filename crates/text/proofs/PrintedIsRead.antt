@@ -5,7 +5,7 @@ use mathlib.Core.Path.{_≡_}
 use mathlib.Core.List.{List}
 use lib.ListN.{length}
 use Rattle.query.specs.declared.Test.{Test}
-use Rattle.query.specs.Tests.{mostTests}
+use Rattle.limits.specs.Limits.{mostTests}
 use Rattle.text.specs.declared.Asked.{Asked}
 use Rattle.text.specs.Lines.{textOf}
 use Rattle.text.specs.Reading.{accepted, Formed, Reads}

@@ -4,7 +4,8 @@ use Prim.Native.Nat.{ℕ}
 use native.Mathlib.Omega.{arith}
 use mathlib.Core.Path.{_≡_, sym, ap, _∙_}
 use mathlib.Core.List.{List}
-use Rattle.query.specs.Tests.{mostTests, emptySlot, testsOf}
+use Rattle.limits.specs.Limits.{mostTests}
+use Rattle.query.specs.Tests.{emptySlot, testsOf}
 use Rattle.text.specs.declared.Asked.{Asked}
 use Rattle.text.specs.Lines.{textOf}
 use Rattle.text.specs.Reading.{Reads}

@@ -12,7 +12,8 @@ use mathlib.Core.Path.{_≡_, refl, sym, ap, ap₂, subst, subst₂, subst₃, _
 use mathlib.Core.List.{List, [], _∷_, _++_, flatten, append-nil, append-assoc}
 use lib.ListN.{length, drop, set, length-append, length-drop, drop-of-length-le}
 use Rattle.query.specs.declared.Test.{Test}
-use Rattle.query.specs.Tests.{mostTests, emptySlot, slotsOf}
+use Rattle.limits.specs.Limits.{mostTests}
+use Rattle.query.specs.Tests.{emptySlot, slotsOf}
 use Rattle.text.specs.declared.Number.the-variants.{Value}
 use Rattle.text.specs.declared.Line.the-variants.{Asks, Malformed}
 use Rattle.text.specs.declared.Asked.{Asked}

@@ -15,7 +15,7 @@ use lib.ListN.{length, length-append}
 use borrow.Author.Tests.{lt-ltb, le-ltb}
 use Rattle.basis.proofs.Truth.{hit, missed}
 use Rattle.query.specs.declared.Test.{Test}
-use Rattle.query.specs.Tests.{mostTests}
+use Rattle.limits.specs.Limits.{mostTests}
 use Rattle.text.specs.declared.Asked.{Asked}
 use Rattle.text.specs.Lines.{segmentLine, testLine, textOf, SmallTest}
 use Rattle.text.specs.Reading.{accepted, refusedWith, BeginsSegment, BeginsTest, Formed, Reads}

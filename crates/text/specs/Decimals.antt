@@ -1,12 +1,8 @@
 -- Decimals without leading zeros. Assumes nothing.
-use Prim.Native.Nat.{ℕ, zero, suc, _+_, _/_, _%_, _^_}
+use Prim.Native.Nat.{ℕ, zero, suc, _+_, _/_, _%_}
 use mathlib.Core.List.{List, [], _∷_, _++_}
 use mathlib.Core.Bool.{true, false}
 use lib.Dec.{ltb}
-
--- a decimal is below 2^32
-abbrev pub decimalLimit : ℕ
-decimalLimit = 2 ^ 32
 
 -- the byte of a digit
 abbrev pub digit : ℕ → ℕ

@@ -2,11 +2,12 @@
 -- each line. Assumes nothing.
 use Prim.Native.Nat.{ℕ, _<_}
 use mathlib.Core.List.{List, [], _∷_, _++_, map, flatten}
+use Rattle.limits.specs.Limits.{decimalLimit}
 use Rattle.query.specs.declared.Comparison.{Comparison}
 use Rattle.query.specs.declared.Comparison.the-variants.{Less, AtMost, More, AtLeast, Equal, Differs}
 use Rattle.query.specs.declared.Test.{Test}
 use Rattle.query.specs.Tests.{literalOf}
-use Rattle.text.specs.Decimals.{decimal, decimalLimit}
+use Rattle.text.specs.Decimals.{decimal}
 
 abbrev pub space : ℕ
 space = 32

@@ -4,9 +4,9 @@ use mathlib.Core.Path.{_≡_}
 use mathlib.Core.List.{List, [], _++_, List·Memᴰ}
 use lib.ListN.{length}
 use Rattle.query.specs.declared.Test.{Test}
-use Rattle.query.specs.Tests.{mostTests, emptySlot, slotsOf}
+use Rattle.limits.specs.Limits.{mostTests, decimalLimit}
+use Rattle.query.specs.Tests.{emptySlot, slotsOf}
 use Rattle.text.specs.declared.Asked.{Asked}
-use Rattle.text.specs.Decimals.{decimalLimit}
 use Rattle.text.specs.Lines.{segmentLine, testLine, textOf, SmallTest}
 
 -- an accepted reply: the size and the tests

@@ -5,6 +5,7 @@ use mathlib.Core.List.{List, _∷_, _++_}
 use mathlib.Core.Bool.{cond}
 use lib.Dec.{eqb}
 use lib.ListN.{length, getD, drop}
+use Rattle.limits.specs.Limits.{decimalLimit}
 use Rattle.query.specs.declared.Comparison.{Comparison}
 use Rattle.query.specs.declared.Test.{Test}
 use Rattle.text.specs.declared.After.{After}
@@ -15,7 +16,7 @@ use Rattle.text.specs.declared.Sign.{Sign}
 use Rattle.text.specs.declared.Sign.the-variants.{Compares, NoSign}
 use Rattle.text.specs.declared.Line.{Line}
 use Rattle.text.specs.declared.Line.the-variants.{Asks, Malformed}
-use Rattle.text.specs.Decimals.{decimal, decimalLimit}
+use Rattle.text.specs.Decimals.{decimal}
 use Rattle.text.specs.Lines.{space, lineFeed, signOf, segmentLine, testLine, SmallTest}
 use Rattle.text.specs.Reading.{BeginsSegment}
 

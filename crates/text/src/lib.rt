@@ -1,7 +1,8 @@
 // Reads the text of a query: a line with the segment size and a line for each test. The text is
 // gone through once, from its first byte to its last.
+use limits::DECIMAL_LIMIT;
+use limits::MOST_TESTS;
 use query::Comparison;
-use query::MOST_TESTS;
 use query::Query;
 use query::Test;
 use register::Refusal;
@@ -9,14 +10,13 @@ ghost use mathlib.Core.Path.{_≡_};
 ghost use Prim.Native.Nat.{_+_, _<_, _≤_};
 ghost use lib.Dec.{eqb};
 ghost use lib.ListN.{length, getD};
+ghost use Rattle.limits.specs.Limits.{decimalLimit};
 ghost use Rattle.query.specs.Tests.{literalOf};
-ghost use Rattle.text.specs.Decimals.{decimalLimit};
 ghost use Rattle.text.specs.Lines.{segmentWord, signOf};
 ghost use Rattle.text.specs.Reading.{Reads, refusedWith};
 ghost use Rattle.text.specs.Steps.{endedBy, NumberAt, DigitsAt, SegmentAt, SignAt, spacedAt, LineAt};
 
 // Decimals are below this.
-const DECIMAL_LIMIT: u64 = 4294967296;
 
 // The reply to a text: the segment size and the query, or the refusal.
 pub struct Asked {
@@ -54,7 +54,7 @@ enum Line {
 pub fn read(text: &[u8]) -> Asked
     ensures { λ r. ⌜ Reads (now (text .entry)) r ⌝ }
 {
-    let mut tests = [query::empty_slot(); 16];
+    let mut tests = [query::empty_slot(); MOST_TESTS];
     let first = read_segment(text);
     let Number::Value(size, after) = first else {
         return refused(17, 0);
@@ -98,7 +98,7 @@ fn refused(number: usize, place: usize) -> Asked
         size: 0,
         query: Query {
             count: 0,
-            tests: [query::empty_slot(); 16],
+            tests: [query::empty_slot(); MOST_TESTS],
         },
     }
 }

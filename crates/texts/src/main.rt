@@ -1,8 +1,8 @@
 // Reads texts that stand below and prints a line for each: its name, then the size and the tests
 // that reading answers, or the refusal. Each name says what is to be seen in the text.
 use libc::STDOUT_FILENO;
+use limits::MOST_TESTS;
 use query::Comparison;
-use query::MOST_TESTS;
 use query::Query;
 use query::Test;
 use register::Refusal;

@@ -16,7 +16,7 @@ use Rattle.basis.proofs.Places.{none-before-first, first-is-none}
 use Rattle.basis.proofs.Refusals.{none-when-accepted, each-fails}
 use Rattle.basis.proofs.Truth.{neither}
 use Rattle.codes.specs.Width.{unfitWidth, tooLarge}
-use Rattle.register.specs.Limits.{mostRows, mostColumns}
+use Rattle.limits.specs.Limits.{mostRows, mostColumns}
 use Rattle.register.specs.Answers.{refusal}
 use Rattle.writer.specs.declared.Written.the-variants.{Bytes, Refused}
 use Rattle.judging.specs.Table.{widthOf, FitWidths, FitCodes, firstUnfit, firstTooLarge}

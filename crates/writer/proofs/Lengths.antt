@@ -10,6 +10,7 @@ use native.Mathlib.Omega.{arith}
 use mathlib.Core.Path.{_≡_, _∙_}
 use mathlib.Core.List.{List, map, flatten}
 use lib.ListN.{length, length-append}
+use Rattle.limits.specs.Limits.{entryBytes, trailerBytes}
 use Rattle.basis.specs.Lists.{below}
 use Rattle.basis.proofs.Lists.{length-flatten, sum-of-same}
 use Rattle.basis.proofs.Numbers.{length-toLittle}
@@ -18,7 +19,7 @@ use Rattle.judging.specs.Table.{widthOf}
 use Rattle.slicing.proofs.Lengths.{length-bodyOf}
 use Rattle.writer.specs.Layout.{entryWith, directoryOf, trailerWith, trailerOf, fileLength, fileOf}
 
-pub length-entryWith : (width offset : ℕ) → length (entryWith width offset) ≡ 8
+pub length-entryWith : (width offset : ℕ) → length (entryWith width offset) ≡ entryBytes
 unfolding entryWith
 length-entryWith width offset = omega (arith, length-toLittle 4 offset)
 
@@ -26,14 +27,14 @@ module _ (rows : ℕ) (widths : List ℕ) where
   abbrev pub entryOf : ℕ → List ℕ
   entryOf column = entryWith (widthOf widths column) (bytesBefore rows (widthOf widths) column)
 
-  pub length-entries : (n : ℕ) → length (flatten (map entryOf (below n))) ≡ 8 * n
-  length-entries n = length-flatten entryOf (λ column. 8) (λ column. length-entryWith _ _) n ∙ sum-of-same 8 n
+  pub length-entries : (n : ℕ) → length (flatten (map entryOf (below n))) ≡ entryBytes * n
+  length-entries n = length-flatten entryOf (λ column. entryBytes) (λ column. length-entryWith _ _) n ∙ sum-of-same entryBytes n
 
-  pub length-directoryOf : length (directoryOf rows widths) ≡ 8 * length widths
+  pub length-directoryOf : length (directoryOf rows widths) ≡ entryBytes * length widths
   unfolding directoryOf
   length-directoryOf = length-entries (length widths)
 
-pub length-trailerWith : (rows columns directory : ℕ) → length (trailerWith rows columns directory) ≡ 16
+pub length-trailerWith : (rows columns directory : ℕ) → length (trailerWith rows columns directory) ≡ trailerBytes
 unfolding trailerWith
 length-trailerWith rows columns directory = simp (length-append, length-toLittle)
 

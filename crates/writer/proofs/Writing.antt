@@ -19,7 +19,7 @@ use lib.ListN.{length, drop}
 use borrow.Author.Tests.{lt-ltb, le-ltb, eq-eqb, ne-eqb}
 use Rattle.basis.specs.Buffers.{laid}
 use Rattle.basis.specs.Refusals.{Line, refuse, refuseAt, refuseFor, answerBy, firstLine, shownBy}
-use Rattle.register.specs.Limits.{mostRows, mostColumns}
+use Rattle.limits.specs.Limits.{mostRows, mostColumns}
 use Rattle.register.specs.Answers.{refusal}
 use Rattle.writer.specs.declared.Written.{Written}
 use Rattle.writer.specs.declared.Written.the-variants.{Bytes, Refused}

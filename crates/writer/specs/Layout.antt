@@ -2,6 +2,7 @@
 use Prim.Native.Nat.{ℕ, _+_, _*_}
 use mathlib.Core.List.{List, _∷_, _++_, map, flatten}
 use lib.ListN.{length}
+use Rattle.limits.specs.Limits.{entryBytes, trailerBytes}
 use Rattle.basis.specs.Lists.{below}
 use Rattle.basis.specs.Numbers.{toLittle}
 use Rattle.register.specs.Layout.{bytesBefore}
@@ -29,7 +30,7 @@ module _ (rows : ℕ) (widths : List ℕ) where
 
   -- how long the file is
   unfoldable pub fileLength : ℕ
-  fileLength = bytesBefore rows (widthOf widths) (length widths) + 8 * length widths + 16
+  fileLength = bytesBefore rows (widthOf widths) (length widths) + entryBytes * length widths + trailerBytes
 
 -- the file: body, directory, trailer
 unfoldable pub fileOf : ℕ → List ℕ → List ℕ → List ℕ

@@ -6,7 +6,7 @@ use lib.Dec.{ltb, eqb}
 use lib.ListN.{length}
 use Rattle.basis.specs.Refusals.{Line, refuse, refuseAt, refuseFor, firstLine, answerBy, shownBy}
 use Rattle.basis.specs.Buffers.{laid}
-use Rattle.register.specs.Limits.{mostRows, mostColumns}
+use Rattle.limits.specs.Limits.{mostRows, mostColumns}
 use Rattle.register.specs.Answers.{refusal}
 use Rattle.judging.specs.Table.{firstUnfit, firstTooLarge}
 use Rattle.writer.specs.declared.Written.{Written}

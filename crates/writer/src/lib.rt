@@ -1,7 +1,9 @@
 // Writes a register's file into a lent buffer: rows of codes become slices, one after the other,
 // and the directory and the trailer follow. Nothing is stored besides.
-use register::MOST_COLUMNS;
-use register::MOST_ROWS;
+use limits::ENTRY_BYTES;
+use limits::MOST_COLUMNS;
+use limits::MOST_ROWS;
+use limits::TRAILER_BYTES;
 use register::Refusal;
 ghost use mathlib.Core.Path.{_≡_};
 ghost use Prim.Native.Nat.{_+_, _*_, _≤_, _<_};
@@ -9,7 +11,7 @@ ghost use lib.ListN.{length};
 ghost use Rattle.basis.specs.Buffers.{laid};
 ghost use Rattle.basis.specs.Numbers.{toLittle};
 ghost use Rattle.register.specs.Layout.{slicesBefore, bytesBefore};
-ghost use Rattle.register.specs.Limits.{mostRows};
+ghost use Rattle.limits.specs.Limits.{mostRows, mostColumns, mostSlices, entryBytes, trailerBytes};
 ghost use Rattle.judging.specs.Table.{widthOf, FitWidths, FitCodes};
 ghost use Rattle.writer.specs.Layout.{entryWith, directoryOf, trailerWith, fileOf};
 ghost use Rattle.writer.specs.Answers.{refusedWith, shownOf};
@@ -50,7 +52,7 @@ pub fn write(rows: usize, widths: &[u8], codes: &[u64], out: &mut [u8]) -> Writt
         return refused(8, large, 0);
     }
     let body = rows * slices_in(widths);
-    let need = body + 8 * columns + 16;
+    let need = body + ENTRY_BYTES * columns + TRAILER_BYTES;
     if out.len() < need {
         return refused(10, 0, need);
     }
@@ -71,7 +73,7 @@ fn refused(number: usize, place: usize, need: usize) -> Written
 // How many slices all columns have.
 fn slices_in(widths: &[u8]) -> usize
     requires { ⌜ FitWidths (now widths) ⌝ }
-    ensures { λ r. ⌜ (r ≡ slicesBefore (widthOf (now (widths .entry))) (length (now (widths .entry)))) × (r ≤ 128) ⌝ }
+    ensures { λ r. ⌜ (r ≡ slicesBefore (widthOf (now (widths .entry))) (length (now (widths .entry)))) × (r ≤ mostSlices * mostColumns) ⌝ }
 {
     let mut slices: usize = 0;
     let mut column = 0;
@@ -87,26 +89,26 @@ fn write_parts(rows: usize, widths: &[u8], codes: &[u64], body: usize, out: &mut
     requires { ⌜ FitWidths (now widths) ⌝ }
     requires { ⌜ FitCodes rows (now widths) (now codes) ⌝ }
     requires { ⌜ (body ≡ bytesBefore rows (widthOf (now widths)) (length (now widths)))
-        × (body + 8 * length (now widths) + 16 ≤ length (now out)) ⌝ }
+        × (body + entryBytes * length (now widths) + trailerBytes ≤ length (now out)) ⌝ }
     ensures { λ _. ⌜ now (out .exit) ≡ laid (now (out .entry)) 0 (fileOf rows (now (widths .entry)) (now (codes .entry))) ⌝ }
 {
     let columns = widths.len();
     slicing::write_body(rows, widths, codes, out);
     write_directory(rows, widths, out, body);
-    write_trailer(rows, columns, body, out, body + 8 * columns);
+    write_trailer(rows, columns, body, out, body + ENTRY_BYTES * columns);
 }
 
 // Writes the directory from a place on: an entry a column.
 fn write_directory(rows: usize, widths: &[u8], out: &mut [u8], at: usize)
     requires { ⌜ FitWidths (now widths) ⌝ }
-    requires { ⌜ (rows ≤ mostRows) × (at + 8 * length (now widths) ≤ length (now out)) ⌝ }
+    requires { ⌜ (rows ≤ mostRows) × (at + entryBytes * length (now widths) ≤ length (now out)) ⌝ }
     ensures { λ _. ⌜ now (out .exit) ≡ laid (now (out .entry)) at (directoryOf rows (now (widths .entry))) ⌝ }
 {
     let mut slices: usize = 0;
     let mut column = 0;
     while column < widths.len() {
         let width = widths[column];
-        write_entry(width, rows * slices, out, at + 8 * column);
+        write_entry(width, rows * slices, out, at + ENTRY_BYTES * column);
         slices = slices + codes::slices_of(width);
         column = column + 1;
     }
@@ -114,7 +116,7 @@ fn write_directory(rows: usize, widths: &[u8], out: &mut [u8], at: usize)
 
 // Writes one entry of the directory.
 fn write_entry(width: u8, offset: usize, out: &mut [u8], at: usize)
-    requires { ⌜ at + 8 ≤ length (now out) ⌝ }
+    requires { ⌜ at + entryBytes ≤ length (now out) ⌝ }
     ensures { λ _. ⌜ now (out .exit) ≡ laid (now (out .entry)) at (entryWith width offset) ⌝ }
 {
     out[at] = width;
@@ -126,7 +128,7 @@ fn write_entry(width: u8, offset: usize, out: &mut [u8], at: usize)
 
 // Writes the trailer.
 fn write_trailer(rows: usize, columns: usize, directory: usize, out: &mut [u8], at: usize)
-    requires { ⌜ at + 16 ≤ length (now out) ⌝ }
+    requires { ⌜ at + trailerBytes ≤ length (now out) ⌝ }
     ensures { λ _. ⌜ now (out .exit) ≡ laid (now (out .entry)) at (trailerWith rows columns directory) ⌝ }
 {
     write_number(rows, 4, out, at);

@@ -7,6 +7,7 @@ use native.Mathlib.Nat.{le-of-lt, lt-of-le-of-lt, mul-le-mul, div-div-eq-div-mul
 use lib.Dec.{lit<}
 use lib.Pow.{pow-mono, pow-lt}
 use borrow.Author.Needs.{needs}
+use Rattle.limits.specs.Limits.{widest}
 use Rattle.codes.specs.Bytes.{storedOf}
 use Rattle.codes.proofs.Width.{pad-below-eight}
 use Rattle.codes.proofs.RoundTrip.{byteOf-digit}
@@ -31,7 +32,7 @@ unit-of-requires c κs = search needs
 mul-rest : tie.Need-mul-rest Inv-loop μ-loop
 mul-rest c =
     let (narrow, fits, slice) = c .before .pre in
-    let code-room : c .before .args .code ≤ 2 ^ 32 = omega (arith, pow-mono narrow) in
+    let code-room : c .before .args .code ≤ 2 ^ widest = omega (arith, pow-mono narrow) in
     let unit-room = le-of-lt (pow-lt (pad-below-eight _)) in
     record { fits = rw (c .unit-of .ensures) (lt-of-le-of-lt (mul-le-mul code-room unit-room) (lit< tt)) }
 

@@ -10,6 +10,7 @@ use lib.Arith.{digits-lt}
 use lib.ListN.{length, take}
 use lib.Pow.{pow-pos}
 use lib.Seq.{take-suc, take-all}
+use Rattle.limits.specs.Limits.{mostSlices}
 use Rattle.codes.specs.Bytes.{big, joined}
 use Rattle.codes.proofs.Width.{earlier-slices}
 use Rattle.codes.proofs.Big.{big-append-one}
@@ -22,8 +23,8 @@ Inv-loop width bytes number₀ i₀ number i = (i ≤ length bytes) × (number �
 abbrev μ-loop : tie.MeasureT-loop
 μ-loop width bytes number₀ i₀ number i = length bytes - i
 
--- while a byte is left, the number so far has at most three bytes
-room : (c : tie.In-loop Inv-loop μ-loop) → c .before .loop .number < 2 ^ 24
+-- while a byte is left, the number so far has a byte less than the most
+room : (c : tie.In-loop Inv-loop μ-loop) → c .before .loop .number < 256 ^ (mostSlices - 1)
 room c =
     let start = c .before .before .before in
     omega (arith, earlier-slices (start .args .width) (c .before .loop .i) (start .pre .0) (omega arith))

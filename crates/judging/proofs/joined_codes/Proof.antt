@@ -4,6 +4,7 @@ use native.Mathlib.Omega.{arith}
 use native.Mathlib.Nat.{mul-le-mul-right}
 use mathlib.Core.Path.{_≡_, refl, _∙_}
 use lib.ListN.{length}
+use Rattle.limits.specs.Limits.{longestPeriod}
 use Rattle.judging.specs.Judging.{Covers}
 use Rattle.judging.proofs.AtOnce.{covers-nothing, covers-one-more}
 use Rattle.judging.proofs.joined_codes.Statement.{statement}
@@ -11,7 +12,7 @@ use Rattle.judging.proofs.joined_codes.Tie as tie
 
 abbrev Inv-loop : tie.InvT-loop
 Inv-loop codes period periods joined₀ i₀ joined i =
-    (i ≤ periods) × (length joined ≡ 256) × Covers codes period i joined
+    (i ≤ periods) × (length joined ≡ longestPeriod) × Covers codes period i joined
 
 abbrev μ-loop : tie.MeasureT-loop
 μ-loop codes period periods joined₀ i₀ joined i = periods - i

@@ -7,7 +7,7 @@ use borrow.Author.Needs.{needs}
 use lib.Dec.{lit<}
 use lib.Pow.{shl-exact}
 use lib.ListN.{length, length-set}
-use Rattle.codes.specs.Width.{widest}
+use Rattle.limits.specs.Limits.{widest}
 use Rattle.judging.specs.Table.{widthOf}
 use Rattle.judging.specs.Judging.{Holds}
 use Rattle.judging.proofs.Columns.{narrow}

@@ -3,6 +3,7 @@ use Prim.Native.Nat.{_+_, _-_, _*_, _≤_}
 use native.Mathlib.Omega.{arith}
 use mathlib.Core.Path.{_≡_}
 use mathlib.Core.List.{flatten}
+use Rattle.limits.specs.Limits.{longestLine}
 use Rattle.rows.specs.RowList.{markedBelow}
 use Rattle.lines.specs.Pieces.{Wrote}
 use Rattle.listing.specs.Listing.{rowLines}
@@ -14,7 +15,7 @@ use Rattle.listing.proofs.row_lines.Tie as tie
 
 abbrev Inv-loop : tie.InvT-loop
 Inv-loop out₀ from at file shape bits rows next₀ row₀ out next row =
-    (row ≤ rows) × ((next ≤ at + 1000 * row) × Wrote from at (rowLines file (markedBelow row bits)) out₀ out next)
+    (row ≤ rows) × ((next ≤ at + longestLine * row) × Wrote from at (rowLines file (markedBelow row bits)) out₀ out next)
 
 abbrev μ-loop : tie.MeasureT-loop
 μ-loop out₀ from at file shape bits rows next₀ row₀ out next row = rows - row

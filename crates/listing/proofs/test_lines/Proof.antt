@@ -5,7 +5,7 @@ use mathlib.Core.Path.{_≡_, ap, ap₂, _∙_}
 use mathlib.Core.List.{flatten}
 use borrow.Author.Needs.{needs}
 use Rattle.codes.specs.Width.{slicesOf}
-use Rattle.register.specs.Limits.{mostRows}
+use Rattle.limits.specs.Limits.{mostRows, mostSlices, longestLine}
 use Rattle.lines.specs.Pieces.{Wrote}
 use Rattle.listing.specs.Listing.{testLines}
 use Rattle.lines.proofs.Writing.{same-room, wrote-nothing, written-then}
@@ -16,7 +16,7 @@ use Rattle.listing.proofs.test_lines.Tie as tie
 
 abbrev Inv-loop : tie.InvT-loop
 Inv-loop out₀ from at file shape count tests counts rows next₀ t₀ out next t =
-    (t ≤ count) × ((next ≤ at + 1000 * t) × Wrote from at (testLines file tests counts t) out₀ out next)
+    (t ≤ count) × ((next ≤ at + longestLine * t) × Wrote from at (testLines file tests counts t) out₀ out next)
 
 abbrev μ-loop : tie.MeasureT-loop
 μ-loop out₀ from at file shape count tests counts rows next₀ t₀ out next t = count - t
@@ -51,7 +51,7 @@ mul-test-line-2 c =
     let width = c .before .before in
     let bytes = few-bytes _ (start .args .shape) (start .pre .1) _ (start .pre .3 _ (width .before .before .loop-test .taken)) in
     let slices = c .slices-of .ensures ∙ ap slicesOf (width .width-at .ensures) in
-    let product : start .args .shape .rows * c .slices-of .result ≤ mostRows * 4 = rw slices bytes in
+    let product : start .args .shape .rows * c .slices-of .result ≤ mostRows * mostSlices = rw slices bytes in
     omega (arith, product)
 
 test-line-requires : tie.Need-test-line-requires Inv-loop μ-loop

@@ -4,7 +4,7 @@ use mathlib.Core.Path.{_≡_, sym, ap, _∙_}
 use lib.ListN.{length, replicate, length-replicate}
 use borrow.Author.Needs.{needs}
 use Rattle.register.specs.declared.Opened.the-variants.{Register}
-use Rattle.register.specs.Limits.{mostRows}
+use Rattle.limits.specs.Limits.{mostRows, mostBits}
 use Rattle.register.specs.Answers.{refusalOf}
 use Rattle.register.specs.Opening.{openedOf}
 use Rattle.scan.specs.declared.Scanned.{Scanned}
@@ -19,9 +19,9 @@ use Rattle.listing.proofs.write.Statement.{statement}
 use Rattle.listing.proofs.write.Tie as tie
 
 -- the result that is lent to the scan is as long as any register needs
-as-long : length {A = ℕ} (replicate 131072 0) ≡ bytesFor mostRows
+as-long : length {A = ℕ} (replicate mostBits 0) ≡ bytesFor mostRows
 unfolding bytesFor
-as-long = length-replicate {A = ℕ} 131072 0
+as-long = length-replicate {A = ℕ} mostBits 0
 
 -- past opening, the file is a register
 openedAt : (c : tie.After-known-told) → openedOf (c .before .before .before .before .before .before .before .before .before .before .before .args .file .now) ≡ Register (c .before .opened .given .0 .0)
@@ -152,7 +152,7 @@ returns-4 c =
       read .read .result,
       (
         read .read .ensures,
-        all-listed _ (read .read .result) (scanned .before .before .before .before .before .before .before .if1 .left) _ (scanned .scan .result) _ (replicate 131072 0) (same-rows _ _ opened) (scan-is scanned)
+        all-listed _ (read .read .result) (scanned .before .before .before .before .before .before .before .if1 .left) _ (scanned .scan .result) _ (replicate mostBits 0) (same-rows _ _ opened) (scan-is scanned)
             (scanned .scan .ensures .1) as-long (judged .if2 .left)
             (written-then (head .head-line .ensures .0) (written-then (tests .test-lines .ensures .0) (rows .row-lines .ensures))),
       ),

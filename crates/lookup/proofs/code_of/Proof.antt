@@ -6,9 +6,10 @@ use mathlib.Core.Path.{_≡_, sym, ap, _∙_}
 use mathlib.Core.List.{map}
 use borrow.Author.Needs.{needs}
 use lib.ListN.{length, getD}
+use Rattle.limits.specs.Limits.{mostSlices}
 use Rattle.basis.specs.Lists.{below}
 use Rattle.codes.specs.Bytes.{joined}
-use Rattle.codes.proofs.Width.{some-slice, slices-at-most-four}
+use Rattle.codes.proofs.Width.{some-slice, few-slices-of}
 use Rattle.lookup.specs.Steps.{place, gathered}
 use Rattle.lookup.proofs.code_of.Statement.{statement}
 use Rattle.lookup.proofs.code_of.Tie as tie
@@ -26,8 +27,8 @@ inside c slice h = start c .pre .2 slice (omega (arith, c .slices-of .ensures))
 some : (c : tie.After-slices-of) → 0 < c .slices-of .result
 some c = omega (arith, c .slices-of .ensures, some-slice _ (start c .pre .0))
 
-few : (c : tie.After-slices-of) → c .slices-of .result ≤ 4
-few c = omega (arith, c .slices-of .ensures, slices-at-most-four _ (start c .pre .1))
+few : (c : tie.After-slices-of) → c .slices-of .result ≤ mostSlices
+few c = omega (arith, c .slices-of .ensures, few-slices-of _ (start c .pre .1))
 
 -- when the slices are so many, so are the bytes
 module _ (c : tie.After-slices-of) where

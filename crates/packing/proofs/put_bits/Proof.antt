@@ -7,6 +7,7 @@ use mathlib.Core.List.{map}
 use mathlib.Core.Bool.{false}
 use lib.Dec.{eqb}
 use lib.ListN.{length, getD}
+use Rattle.limits.specs.Limits.{longestSegment}
 use Rattle.basis.specs.Buffers.{laid}
 use Rattle.basis.specs.Lists.{sum, below}
 use Rattle.basis.proofs.Runs.{sum-ends}
@@ -30,7 +31,7 @@ abbrev μ-loop : tie.MeasureT-loop
 -- the eight rows from here on are among the 64 places
 eight-more : (c : tie.In-loop Inv-loop μ-loop) →
     let a = c .before .before .before .args in
-    FoundRows (a .found .now) 64 × (8 * c .before .loop .i + 8 ≤ 64)
+    FoundRows (a .found .now) longestSegment × (8 * c .before .loop .i + 8 ≤ longestSegment)
 eight-more c =
     let fit = c .before .before .before .pre .0 in (
       record { few = omega arith; all = fit .all; each = fit .each; rest = λ k h. fit .rest k (omega (arith, fit .few)) },

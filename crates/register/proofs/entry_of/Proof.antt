@@ -5,6 +5,7 @@ use mathlib.Core.Path.{_≡_}
 use mathlib.Core.List.{List}
 use lib.ListN.{length}
 use borrow.Author.Needs.{needs}
+use Rattle.limits.specs.Limits.{mostColumns, entryBytes, trailerBytes}
 use Rattle.register.specs.declared.Shape.{Shape}
 use Rattle.register.specs.declared.Opened.the-variants.{Register}
 use Rattle.register.specs.File.{directoryIn}
@@ -16,7 +17,7 @@ use Rattle.register.proofs.entry_of.Tie as tie
 
 -- an opened file has room for its directory and its trailer
 room : (file : List ℕ) (shape : Shape) → openedOf file ≡ Register shape →
-    (shape .columns ≤ 32) × (directoryIn file + 8 * shape .columns + 16 ≡ length file)
+    (shape .columns ≤ mostColumns) × (directoryIn file + entryBytes * shape .columns + trailerBytes ≡ length file)
 room file shape opened =
     let fit = opened-is-fit file shape opened .0 in
     rw (columns-as-opened file shape opened) (fit .few-columns, fit .placed)

@@ -9,9 +9,10 @@ use mathlib.Core.Bool.{false}
 use borrow.Author.Needs.{needs}
 use borrow.Author.Count.{below-more}
 use lib.ListN.{length, take, drop}
+use Rattle.limits.specs.Limits.{mostSlices, entryBytes}
 use Rattle.basis.proofs.Places.{first-is, first-is-none}
 use Rattle.codes.specs.Width.{slicesOf}
-use Rattle.codes.proofs.Width.{slices-at-most-four}
+use Rattle.codes.proofs.Width.{few-slices-of}
 use Rattle.register.specs.Layout.{slicesBefore}
 use Rattle.register.specs.File.{entryIn, widthOf, widthIn, unfitColumn}
 use Rattle.register.proofs.Directory.{entry-cut, judged-by-entry, fit-column, one-more-column, few-bytes}
@@ -23,7 +24,7 @@ pub record Passed (file : List ℕ) (columns slices column : ℕ) : Type 0 where
   pub within : column ≤ columns
   pub fit : (earlier : ℕ) → earlier < column → unfitColumn file earlier ≡ false
   pub counted : slices ≡ slicesBefore (widthIn file) column
-  pub few : slices ≤ 4 * column
+  pub few : slices ≤ mostSlices * column
 
 none-passed : (file : List ℕ) (columns : ℕ) → Passed file columns 0 0
 unfolding slicesBefore
@@ -33,7 +34,7 @@ one-more-passed : (file : List ℕ) (columns slices column more : ℕ) → Passe
     unfitColumn file column ≡ false → more ≡ slicesOf (widthIn file column) → Passed file columns (slices + more) (column + 1)
 one-more-passed file columns slices column more passed next fit same =
     let known = fit-column file column fit in
-    let at-most = slices-at-most-four (widthIn file column) (known .narrow) in
+    let at-most = few-slices-of (widthIn file column) (known .narrow) in
     record {
       within = omega arith;
       fit = below-more _ _ (passed .fit) fit;
@@ -52,12 +53,12 @@ abbrev fileOf : tie.In-loop Inv-loop μ-loop → List ℕ
 fileOf c = c .before .before .before .args .file .now
 
 abbrev fromOf : tie.In-loop Inv-loop μ-loop → ℕ
-fromOf c = c .before .before .before .args .directory + 8 * c .before .loop .column
+fromOf c = c .before .before .before .args .directory + entryBytes * c .before .loop .column
 
 abbrev entryOf : tie.In-loop Inv-loop μ-loop → List ℕ
-entryOf c = take (fromOf c + 8 - fromOf c) (drop (fromOf c) (fileOf c))
+entryOf c = take (fromOf c + entryBytes - fromOf c) (drop (fromOf c) (fileOf c))
 
-here : (c : tie.In-loop Inv-loop μ-loop) → (entryOf c ≡ entryIn (fileOf c) (c .before .loop .column)) × (length (entryOf c) ≡ 8)
+here : (c : tie.In-loop Inv-loop μ-loop) → (entryOf c ≡ entryIn (fileOf c) (c .before .loop .column)) × (length (entryOf c) ≡ entryBytes)
 here c = entry-cut (fileOf c) (fromOf c) (c .before .loop .column) (omega arith) (omega arith)
 
 -- what was said of the entry is so of the column

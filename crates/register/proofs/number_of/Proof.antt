@@ -7,6 +7,7 @@ use mathlib.Core.List.{List}
 use borrow.Author.Needs.{needs}
 use lib.ListN.{length, drop, getD}
 use lib.Seq.{drop-length}
+use Rattle.limits.specs.Limits.{fourBytes}
 use Rattle.basis.specs.Numbers.{little}
 use Rattle.basis.proofs.Numbers.{little-from, one-more-byte, four-bytes}
 use Rattle.register.proofs.number_of.Statement.{statement}
@@ -30,7 +31,7 @@ one-more bytes left number b from some at byte =
     let step = little-from bytes (left - 1) (omega arith) in
     (omega arith, omega (arith, rw next at step), rw many (one-more-byte (length bytes - left) number b (from .2) byte))
 
-small : (bytes : List ℕ) (left number : ℕ) → From bytes left number → length bytes ≤ 4 → number < 2 ^ 32
+small : (bytes : List ℕ) (left number : ℕ) → From bytes left number → length bytes ≤ 4 → number < fourBytes
 small bytes left number from few = four-bytes (length bytes - left) number (omega arith) (from .2)
 
 abbrev Inv-loop : tie.InvT-loop

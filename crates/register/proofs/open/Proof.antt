@@ -6,6 +6,7 @@ use mathlib.Core.List.{List}
 use borrow.Author.Needs.{needs}
 use lib.ListN.{length, take, drop, length-drop}
 use lib.Seq.{take-all}
+use Rattle.limits.specs.Limits.{trailerBytes}
 use Rattle.basis.specs.Numbers.{little}
 use Rattle.basis.specs.Places.{firstPlace}
 use Rattle.basis.proofs.Places.{first-at-most}
@@ -34,7 +35,7 @@ promised file said is =
 abbrev fileAt : tie.After-read-trailer → List ℕ
 fileAt c = c .before .before .before .before .args .file .now
 
-long : (c : tie.After-read-trailer) → 16 ≤ length (fileAt c)
+long : (c : tie.After-read-trailer) → trailerBytes ≤ length (fileAt c)
 long c = c .before .before .if1 .left
 
 abbrev trailerAt : tie.After-read-trailer → Trailer
@@ -47,7 +48,7 @@ to-the-end file from = take-all (length file - from) (drop from file) (rw length
 known : (c : tie.After-read-trailer) → TrailerRead (trailerIn (fileAt c)) (trailerAt c)
 unfolding trailerIn
 known c =
-    subst (λ (last : List ℕ). TrailerRead last (trailerAt c)) (to-the-end (fileAt c) (length (fileAt c) - 16))
+    subst (λ (last : List ℕ). TrailerRead last (trailerAt c)) (to-the-end (fileAt c) (length (fileAt c) - trailerBytes))
     (c .read-trailer .ensures)
 
 abbrev read-3 : tie.Else3 → tie.After-read-trailer

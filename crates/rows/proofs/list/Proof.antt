@@ -6,7 +6,7 @@ use mathlib.Core.List.{List}
 use mathlib.Core.Bool.{false}
 use lib.ListN.{length}
 use borrow.Author.Needs.{needs}
-use Rattle.register.specs.Limits.{mostRows}
+use Rattle.limits.specs.Limits.{mostRows}
 use Rattle.packing.specs.Bits.{bytesFor}
 use Rattle.rows.specs.declared.Listed.the-variants.{Rows}
 use Rattle.rows.specs.Answers.{refusedWith}

@@ -3,6 +3,7 @@ use Prim.Native.Nat.{_+_, _-_, _≤_}
 use native.Mathlib.Omega.{arith}
 use mathlib.Core.Path.{_≡_}
 use lib.ListN.{getD}
+use Rattle.limits.specs.Limits.{mostTests}
 use Rattle.standings.specs.Sweeps.{Swept}
 use Rattle.standings.proofs.FrontSweeps.{swept-next}
 use Rattle.standings.proofs.Sweeps.{swept-nothing}
@@ -10,10 +11,10 @@ use Rattle.scan.proofs.add_counts.Statement.{statement}
 use Rattle.scan.proofs.add_counts.Tie as tie
 
 abbrev Inv-loop : tie.InvT-loop
-Inv-loop counts₀ read t₀ counts t = (t ≤ 16) × Swept counts₀ counts 0 t (λ k. getD counts₀ k 0 + getD read k 0)
+Inv-loop counts₀ read t₀ counts t = (t ≤ mostTests) × Swept counts₀ counts 0 t (λ k. getD counts₀ k 0 + getD read k 0)
 
 abbrev μ-loop : tie.MeasureT-loop
-μ-loop counts₀ read t₀ counts t = 16 - t
+μ-loop counts₀ read t₀ counts t = mostTests - t
 
 loop-holds : tie.Need-loop-holds Inv-loop μ-loop
 loop-holds c = (omega arith, swept-nothing _ 0 _)
@@ -57,7 +58,7 @@ loop-again c =
 returns : tie.Need-returns Inv-loop μ-loop
 returns c =
     let turn = c .before .loop in
-    let end : turn .t ≡ 16 = omega arith in
+    let end : turn .t ≡ mostTests = omega arith in
     rw end at (turn .inv .1)
 
 pub add-counts-spec : {M : Type 1} → statement M

@@ -8,7 +8,7 @@ use borrow.Author.Needs.{needs}
 use Rattle.basis.specs.Refusals.{firstLine}
 use Rattle.register.specs.declared.Opened.the-variants.{Register}
 use Rattle.register.specs.declared.Shape.{Shape}
-use Rattle.register.specs.Limits.{mostRows}
+use Rattle.limits.specs.Limits.{mostRows}
 use Rattle.register.specs.Opening.{openedOf}
 use Rattle.register.specs.Answers.{refusalOf}
 use Rattle.register.proofs.Fit.{opened-is-fit}

@@ -5,9 +5,8 @@ use native.Mathlib.Omega.{arith}
 use mathlib.Core.Path.{_≡_, refl, ap}
 use borrow.Author.Needs.{needs}
 use lib.ListN.{length}
-use Rattle.codes.specs.Width.{widest}
 use Rattle.register.specs.declared.Shape.{Shape}
-use Rattle.register.specs.Limits.{mostRows}
+use Rattle.limits.specs.Limits.{mostRows, widest}
 use Rattle.register.specs.File.{rowsIn, widthIn}
 use Rattle.register.proofs.Fit.{opened-is-fit}
 use Rattle.query.specs.Tests.{testAt}

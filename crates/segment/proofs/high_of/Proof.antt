@@ -7,7 +7,7 @@ use lib.Pow.{pow-pos}
 use Rattle.codes.specs.Bytes.{byteOf}
 use Rattle.codes.specs.Pad.{highOf}
 use Rattle.codes.specs.Width.{padOf}
-use Rattle.codes.proofs.Width.{slices-at-most-four}
+use Rattle.codes.proofs.Width.{few-slices-of}
 use Rattle.codes.proofs.LowHigh.{high-last, high-before, high-is-a-byte}
 use Rattle.segment.proofs.high_of.Statement.{statement}
 use Rattle.segment.proofs.high_of.Tie as tie
@@ -33,7 +33,7 @@ byte-of-requires : tie.Need-byte-of-requires
 byte-of-requires c κs = search needs
 
 add-if1 : tie.Need-add-if1
-add-if1 c = omega (arith, slices-at-most-four (c .before .args .width) (c .before .pre .0 .0))
+add-if1 c = omega (arith, few-slices-of (c .before .args .width) (c .before .pre .0 .0))
 
 slices-of-requires : tie.Need-slices-of-requires
 slices-of-requires c κs = search needs

@@ -3,10 +3,11 @@ use Prim.Native.Nat.{_+_, _-_, _≤_, _<_}
 use native.Mathlib.Omega.{arith}
 use mathlib.Core.Path.{_≡_}
 use borrow.Author.Needs.{needs}
+use Rattle.limits.specs.Limits.{planPlaces}
 use Rattle.codes.specs.Width.{slicesOf}
 use Rattle.codes.specs.Bytes.{byteOf}
 use Rattle.codes.specs.Pad.{highOf}
-use Rattle.codes.proofs.Width.{slices-at-most-four}
+use Rattle.codes.proofs.Width.{few-slices-of}
 use Rattle.standings.specs.Sweeps.{Swept}
 use Rattle.standings.proofs.Sweeps.{swept-nothing, swept-one-more}
 use Rattle.segment.proofs.plan_bytes.Statement.{statement}
@@ -26,8 +27,8 @@ abbrev start : tie.In-loop Inv-loop μ-loop → tie.Start Inv-loop μ-loop
 start c = c .before .before .before
 
 -- four slices at most, so that the place of each is there
-within : (c : tie.In-loop Inv-loop μ-loop) → start c .args .base + c .before .loop .j < 64
-within c = omega (arith, slices-at-most-four (start c .args .width) (start c .pre .0 .0), c .before .loop .inv .1)
+within : (c : tie.In-loop Inv-loop μ-loop) → start c .args .base + c .before .loop .j < planPlaces
+within c = omega (arith, few-slices-of (start c .args .width) (start c .pre .0 .0), c .before .loop .inv .1)
 
 slices-of-requires : tie.Need-slices-of-requires Inv-loop μ-loop
 slices-of-requires c κs = search needs

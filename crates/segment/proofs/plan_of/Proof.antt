@@ -4,6 +4,7 @@ use native.Mathlib.Omega.{arith}
 use mathlib.Core.Path.{_≡_, refl, ap, subst, _∙_}
 use borrow.Author.Needs.{needs}
 use lib.ListN.{length, length-set}
+use Rattle.limits.specs.Limits.{mostTests, planPlaces}
 use Rattle.codes.specs.Width.{slicesOf}
 use Rattle.segment.specs.Steps.{FitLiteral, Planned}
 use Rattle.segment.proofs.Planning.{narrow, fit-literal, planned-nothing, planned-one-more}
@@ -14,7 +15,7 @@ abbrev Inv-loop : tie.InvT-loop
 Inv-loop file shape count tests offsets₀ slices₀ lows₀ highs₀ t₀ offsets slices lows highs t =
     (t ≤ count) ×
     Planned file tests t offsets slices lows highs ×
-    ((length offsets ≡ 16) × (length slices ≡ 16) × (length lows ≡ 64) × (length highs ≡ 64))
+    ((length offsets ≡ mostTests) × (length slices ≡ mostTests) × (length lows ≡ planPlaces) × (length highs ≡ planPlaces))
 
 abbrev μ-loop : tie.MeasureT-loop
 μ-loop file shape count tests offsets₀ slices₀ lows₀ highs₀ t₀ offsets slices lows highs t = count - t

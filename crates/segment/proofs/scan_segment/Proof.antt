@@ -9,6 +9,7 @@ use mathlib.Core.List.{List}
 use mathlib.Core.Bool.{true}
 use borrow.Author.Needs.{needs}
 use lib.ListN.{length, getD, take, drop}
+use Rattle.limits.specs.Limits.{mostSlices, longestSegment}
 use Rattle.basis.specs.Lists.{sum, below}
 use Rattle.basis.proofs.Lists.{sum-one-more}
 use Rattle.codes.specs.Width.{slicesOf}
@@ -44,10 +45,10 @@ abbrev μ-tests : tie.MeasureT-tests
 
 abbrev Inv-slices : tie.InvT-slices
 Inv-slices file rows first n tests count offsets slices lows highs standings₀ inside₀ counts₀ j₀ standings inside counts j =
-    (j ≤ 4) × Progress (workOf file first n tests count) j 0 standings inside counts true
+    (j ≤ mostSlices) × Progress (workOf file first n tests count) j 0 standings inside counts true
 
 abbrev μ-slices : tie.MeasureT-slices
-μ-slices file rows first n tests count offsets slices lows highs standings₀ inside₀ counts₀ j₀ standings inside counts j = 4 - j
+μ-slices file rows first n tests count offsets slices lows highs standings₀ inside₀ counts₀ j₀ standings inside counts j = mostSlices - j
 
 -- the places that the facts below speak of: the entry, a turn of the loop over the tests, a row counted, some row found open
 abbrev Entry : Type 0
@@ -179,7 +180,7 @@ rows-again : tie.Need-rows-again Inv-rows μ-rows Inv-tests μ-tests Inv-slices 
 rows-again c =
     let turn = c .before .before .before .before .before in
     let r = c .before .before .rows .r in
-    let opened = openIn (turn .before .tests .standings) (testOf turn * 64) (rowsOf turn) in
+    let opened = openIn (turn .before .tests .standings) (testOf turn * longestSegment) (rowsOf turn) in
     let more : sum opened (below (r + 1)) ≡ sum opened (below r) + opened r = rw add-one (sum-one-more opened r) in
     (omega arith, omega (arith, at-most-one c), omega (arith, more, c .open-row .ensures))
 

@@ -5,6 +5,7 @@ use mathlib.Core.Path.{_≡_, refl, ap}
 use mathlib.Core.List.{List}
 use borrow.Author.Needs.{needs, scaled-fits}
 use lib.ListN.{length, length-set}
+use Rattle.limits.specs.Limits.{fourBytes}
 use Rattle.codes.specs.Width.{padOf}
 use Rattle.codes.specs.Bytes.{storedOf}
 use Rattle.judging.specs.Table.{widthOf, codeOf}
@@ -48,7 +49,7 @@ there c = code-there _ _ _ (start c .pre .1 .0) _ _ (row-there c) (start c .pre 
 small : (c : tie.In-loop Inv-loop μ-loop) →
     let args = start c .args in
     codeOf (args .widths .now) (args .codes .now) (args .first + c .before .loop .k) (args .column) * c .before .before .unit-of .result
-    < 2 ^ 32
+    < fourBytes
 small c =
     let args = start c .args in
     let pre = start c .pre in

@@ -5,11 +5,12 @@ use native.Mathlib.Nat.{add-zero}
 use mathlib.Core.Path.{_≡_, refl, _∙_}
 use borrow.Author.Needs.{needs}
 use lib.ListN.{length}
+use Rattle.limits.specs.Limits.{mostSlices}
 use Rattle.codes.specs.Width.{slicesOf}
 use Rattle.judging.specs.Table.{widthOf}
 use Rattle.slicing.specs.Body.{bodyOf}
 use Rattle.slicing.specs.Putting.{Put}
-use Rattle.codes.proofs.Width.{slices-at-most-four}
+use Rattle.codes.proofs.Width.{few-slices-of}
 use Rattle.judging.proofs.Columns.{narrow}
 use Rattle.slicing.proofs.Putting.{put-nothing, put-slices}
 use Rattle.slicing.proofs.Blocks.{run-within, run-put}
@@ -33,11 +34,11 @@ among : (c : tie.In-loop Inv-loop μ-loop) →
 among c = omega (arith, c .before .before .slices-of .ensures)
 
 -- of which there are four at most
-few : (c : tie.In-loop Inv-loop μ-loop) → c .before .before .slices-of .result ≤ 4
+few : (c : tie.In-loop Inv-loop μ-loop) → c .before .before .slices-of .result ≤ mostSlices
 few c =
     let args = start c .args in
     let pre = start c .pre in
-    let most = slices-at-most-four (widthOf (args .widths .now) (args .column)) (narrow _ (pre .0) _ (pre .1 .1 .1 .0)) in
+    let most = few-slices-of (widthOf (args .widths .now) (args .column)) (narrow _ (pre .0) _ (pre .1 .1 .1 .0)) in
     omega (arith, c .before .before .slices-of .ensures)
 
 -- its run has room in the buffer

@@ -8,6 +8,7 @@ use mathlib.Core.Bool.{cond}
 use lib.Dec.{ltb}
 use lib.ListN.{getD, replicate, length-replicate}
 use borrow.Author.Tests.{lt-ltb, le-ltb}
+use Rattle.limits.specs.Limits.{longestSegment}
 use Rattle.basis.proofs.Runs.{within-or-past}
 use Rattle.standings.specs.Sweeps.{Swept}
 use Rattle.standings.proofs.Sweeps.{swept-nothing}
@@ -16,16 +17,16 @@ use Rattle.standings.proofs.in_rows.Statement.{statement}
 use Rattle.standings.proofs.in_rows.Tie as tie
 
 abbrev Inv-loop : tie.InvT-loop
-Inv-loop n inside₀ r₀ inside r = (r ≤ n) × Swept (replicate 64 0) inside 0 r (λ k. 1)
+Inv-loop n inside₀ r₀ inside r = (r ≤ n) × Swept (replicate longestSegment 0) inside 0 r (λ k. 1)
 
 abbrev μ-loop : tie.MeasureT-loop
 μ-loop n inside₀ r₀ inside r = n - r
 
 -- ones to the front of zeros
-ones-then-zeros : (inside : List ℕ) (n k : ℕ) → Swept (replicate 64 0) inside 0 n (λ k. 1) → getD inside k 0 ≡ cond (ltb k n) 1 0
+ones-then-zeros : (inside : List ℕ) (n k : ℕ) → Swept (replicate longestSegment 0) inside 0 n (λ k. 1) → getD inside k 0 ≡ cond (ltb k n) 1 0
 ones-then-zeros inside n k swept =
     ⊎-elim (λ (in-front : k < n). swept-from-front swept k in-front ∙ rw (lt-ltb k n in-front))
-    (λ (past : n ≤ k). swept .behind k (omega arith) ∙ all-zero 64 k ∙ rw (le-ltb k n past))
+    (λ (past : n ≤ k). swept .behind k (omega arith) ∙ all-zero longestSegment k ∙ rw (le-ltb k n past))
     (within-or-past k n)
 
 loop-holds : tie.Need-loop-holds Inv-loop μ-loop
@@ -43,7 +44,7 @@ loop-less c = omega arith
 loop-again : tie.Need-loop-again Inv-loop μ-loop
 loop-again c =
     let loop = c .before .loop in
-    (omega arith, swept-next (loop .inv .1) (omega (arith, length-replicate {A = ℕ} 64 0)) (λ same. refl))
+    (omega arith, swept-next (loop .inv .1) (omega (arith, length-replicate {A = ℕ} longestSegment 0)) (λ same. refl))
 
 returns : tie.Need-returns Inv-loop μ-loop
 returns c =

@@ -6,6 +6,7 @@ use mathlib.Core.Path.{_≡_, ap, _∙_}
 use mathlib.Core.Bool.{true}
 use borrow.Author.Needs.{needs}
 use lib.ListN.{length}
+use Rattle.limits.specs.Limits.{mostRows, mostColumns, mostSlices, entryBytes, trailerBytes}
 use Rattle.basis.specs.Refusals.{refuse, refuseAt, refuseFor}
 use Rattle.register.specs.Layout.{bytesBefore}
 use Rattle.register.proofs.Directory.{few-bytes}
@@ -84,13 +85,13 @@ body-end : (c : tie.After-slices-in) →
 body-end c = ap (λ (slices : ℕ). start-10 c .args .rows * slices) (c .slices-in .ensures .0)
 
 file-end : (c : tie.After-slices-in) →
-    let widths = start-10 c .args .widths .now in bodyAt c + 8 * length widths + 16 ≡ fileLength (start-10 c .args .rows) widths
+    let widths = start-10 c .args .widths .now in bodyAt c + entryBytes * length widths + trailerBytes ≡ fileLength (start-10 c .args .rows) widths
 unfolding fileLength
 file-end c = omega (arith, body-end c)
 
 -- neither wraps
-small : (c : tie.After-slices-in) → bodyAt c ≤ 2 ^ 27
-small c = few-bytes _ (c .slices-in .result) 32 (fit-codes (c .before) .few-rows) (omega (arith, c .slices-in .ensures .1)) (omega arith)
+small : (c : tie.After-slices-in) → bodyAt c ≤ mostRows * (mostSlices * mostColumns)
+small c = few-bytes _ (c .slices-in .result) mostColumns (fit-codes (c .before) .few-rows) (omega (arith, c .slices-in .ensures .1)) (omega arith)
 
 refused-requires : tie.Need-refused-requires
 refused-requires c κs = search needs

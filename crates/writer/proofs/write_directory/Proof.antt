@@ -5,6 +5,7 @@ use mathlib.Core.Path.{_≡_}
 use mathlib.Core.List.{map, flatten}
 use borrow.Author.Needs.{needs}
 use lib.ListN.{length}
+use Rattle.limits.specs.Limits.{entryBytes}
 use Rattle.basis.specs.Lists.{below}
 use Rattle.basis.proofs.Buffers.{Filled, filled-nothing, filled-list}
 use Rattle.register.specs.Layout.{slicesBefore}
@@ -82,7 +83,7 @@ loop-again c =
     let so-far = length-entries (args .rows) (args .widths .now) column in
     let own = length-entryWith (widthOf (args .widths .now) column) (args .rows * slicesBefore (widthOf (args .widths .now)) column) in (
       passed c,
-      filled-list _ _ (entryOf (args .rows) (args .widths .now)) column (args .at + 8 * column) (turn .before .loop .inv .1)
+      filled-list _ _ (entryOf (args .rows) (args .widths .now)) column (args .at + entryBytes * column) (turn .before .loop .inv .1)
           (omega arith) (omega arith) (rw (turn .before .loop .inv .0 .counted) at (call .write-entry .ensures)),
     )
 

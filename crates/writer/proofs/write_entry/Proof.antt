@@ -4,6 +4,7 @@ use native.Mathlib.Omega.{arith}
 use mathlib.Core.List.{List, [], _∷_}
 use borrow.Author.Needs.{needs}
 use lib.ListN.{length, set, length-set}
+use Rattle.limits.specs.Limits.{entryBytes}
 use Rattle.basis.specs.Numbers.{toLittle}
 use Rattle.basis.proofs.Buffers.{Filled, filled-nothing, filled-store, filled-more}
 use Rattle.basis.proofs.Numbers.{length-toLittle}
@@ -12,7 +13,7 @@ use Rattle.writer.proofs.write_entry.Statement.{statement}
 use Rattle.writer.proofs.write_entry.Tie as tie
 
 -- the width and the three zero bytes
-first-four : (out : List ℕ) (at width : ℕ) → at + 8 ≤ length out →
+first-four : (out : List ℕ) (at width : ℕ) → at + entryBytes ≤ length out →
     Filled out at (width ∷ 0 ∷ 0 ∷ 0 ∷ []) (set (set (set (set out at width) (at + 1) 0) (at + 2) 0) (at + 3) 0)
 first-four out at width room =
     let one = filled-store out at [] at width (filled-nothing out at) (omega arith) (omega arith) in

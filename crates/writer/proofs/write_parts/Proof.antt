@@ -5,6 +5,7 @@ use mathlib.Core.Path.{_≡_, ap, _∙_}
 use mathlib.Core.List.{List, _++_, append-assoc}
 use borrow.Author.Needs.{needs}
 use lib.ListN.{length, length-append}
+use Rattle.limits.specs.Limits.{entryBytes, trailerBytes}
 use Rattle.basis.specs.Buffers.{laid}
 use Rattle.basis.proofs.Buffers.{filled-at-once, filled-more}
 use Rattle.register.specs.Layout.{bytesBefore}
@@ -18,9 +19,9 @@ use Rattle.writer.proofs.write_parts.Tie as tie
 
 -- the three parts, each written right behind the one before, are the file
 parts-are-file : (rows : ℕ) (widths codes out : List ℕ) (body : ℕ) {one two all : List ℕ} →
-    body ≡ bytesBefore rows (widthOf widths) (length widths) → body + 8 * length widths + 16 ≤ length out →
+    body ≡ bytesBefore rows (widthOf widths) (length widths) → body + entryBytes * length widths + trailerBytes ≤ length out →
     one ≡ laid out 0 (bodyOf rows widths codes) → two ≡ laid one body (directoryOf rows widths) →
-    all ≡ laid two (body + 8 * length widths) (trailerWith rows (length widths) body) → all ≡ laid out 0 (fileOf rows widths codes)
+    all ≡ laid two (body + entryBytes * length widths) (trailerWith rows (length widths) body) → all ≡ laid out 0 (fileOf rows widths codes)
 unfolding fileOf trailerOf
 parts-are-file rows widths codes out body end room said-1 said-2 said-3 =
     let front = bodyOf rows widths codes in
@@ -32,7 +33,7 @@ parts-are-file rows widths codes out body end room said-1 said-2 said-3 =
     let both = length-append front middle in
     let upto-1 = filled-at-once out 0 front (omega arith) said-1 in
     let upto-2 = filled-more out 0 front body middle upto-1 (omega arith) (omega arith) said-2 in
-    let upto-3 = filled-more out 0 (front ++ middle) (body + 8 * length widths) last upto-2 (omega arith) (omega arith) said-3 in
+    let upto-3 = filled-more out 0 (front ++ middle) (body + entryBytes * length widths) last upto-2 (omega arith) (omega arith) said-3 in
     rw end at (upto-3 .filled ∙ ap (laid out 0) (append-assoc front middle last))
 
 write-body-requires : tie.Need-write-body-requires

@@ -5,6 +5,7 @@ use mathlib.Core.Path.{_≡_, ap, _∙_}
 use mathlib.Core.List.{List, _++_, append-assoc}
 use borrow.Author.Needs.{needs}
 use lib.ListN.{length, length-append}
+use Rattle.limits.specs.Limits.{trailerBytes}
 use Rattle.basis.specs.Buffers.{laid}
 use Rattle.basis.specs.Numbers.{little, toLittle}
 use Rattle.basis.proofs.Buffers.{Filled, filled-at-once, filled-more}
@@ -32,7 +33,7 @@ module _ (out : List ℕ) (at : ℕ) where
       filled-more out at list (at + long) (toLittle bytes number) before (omega arith) (omega (arith, length-toLittle bytes number)) said
 
   -- the trailer's five numbers, each written right behind the one before
-  five-numbers : (rows columns directory : ℕ) {one two three four all : List ℕ} → at + 16 ≤ length out →
+  five-numbers : (rows columns directory : ℕ) {one two three four all : List ℕ} → at + trailerBytes ≤ length out →
       one ≡ laid out at (toLittle 4 rows) → two ≡ laid one (at + 4) (toLittle 2 columns) → three ≡ laid two (at + 6) (toLittle 2 1) →
       four ≡ laid three (at + 8) (toLittle 4 directory) → all ≡ laid four (at + 12) (toLittle 4 mark) →
       all ≡ laid out at (trailerWith rows columns directory)

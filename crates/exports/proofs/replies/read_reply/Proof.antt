@@ -5,6 +5,7 @@ use mathlib.Core.Path.{_≡_, refl, ap, _∙_}
 use mathlib.Core.List.{List, [], _∷_, _++_, map, flatten}
 use lib.ListN.{length, getD}
 use borrow.Author.Needs.{needs}
+use Rattle.limits.specs.Limits.{mostTests, readNumbers}
 use Rattle.basis.specs.Lists.{below}
 use Rattle.basis.proofs.Buffers.{Filled, filled-nothing}
 use Rattle.query.specs.Tests.{emptySlot}
@@ -15,10 +16,10 @@ use Rattle.exports.proofs.replies.read_reply.Tie as tie
 
 abbrev Inv-loop : tie.InvT-loop
 Inv-loop size count tests reply₀ t₀ reply t =
-    (t ≤ 16) × ((length reply₀ ≡ 53) × Filled reply₀ 5 (flatten (map (slotAt tests) (below t))) reply)
+    (t ≤ mostTests) × ((length reply₀ ≡ readNumbers) × Filled reply₀ 5 (flatten (map (slotAt tests) (below t))) reply)
 
 abbrev μ-loop : tie.MeasureT-loop
-μ-loop size count tests reply₀ t₀ reply t = 16 - t
+μ-loop size count tests reply₀ t₀ reply t = mostTests - t
 
 array-write-reply : tie.Need-array-write-reply Inv-loop μ-loop
 array-write-reply c = search needs
@@ -107,11 +108,11 @@ returns c =
     let a = c .before .before .args in
     let turn = c .before .loop in
     let tests = a .t4 in
-    let long : length tests ≡ 16 = search needs in
-    let all : turn .t ≡ 16 = omega arith in
+    let long : length tests ≡ mostTests = search needs in
+    let all : turn .t ≡ mostTests = omega arith in
     let filled = rw all at (turn .inv .1 .1) in
     let front : List ℕ = a .refusal .number ∷ a .refusal .place ∷ a .refusal .need ∷ a .size ∷ a .count ∷ [] in
-    behind _ 5 (flatten (map (slotAt tests) (below 16))) filled (turn .inv .1 .0)
+    behind _ 5 (flatten (map (slotAt tests) (below mostTests))) filled (turn .inv .1 .0)
     ∙ ap (λ (numbers : List ℕ). front ++ numbers) (each-slot tests long)
 
 pub read-reply-spec : {M : Type 1} → statement M

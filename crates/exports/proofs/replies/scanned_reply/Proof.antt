@@ -4,6 +4,7 @@ use native.Mathlib.Omega.{arith}
 use mathlib.Core.Path.{_≡_, refl, ap, _∙_}
 use mathlib.Core.List.{List, [], _∷_, _++_, map}
 use lib.ListN.{length, getD}
+use Rattle.limits.specs.Limits.{mostTests, scanNumbers}
 use Rattle.basis.specs.Lists.{below}
 use Rattle.basis.proofs.Buffers.{Filled, filled-nothing, filled-element}
 use borrow.Author.Needs.{needs}
@@ -14,10 +15,10 @@ use Rattle.exports.proofs.replies.scanned_reply.Tie as tie
 
 abbrev Inv-loop : tie.InvT-loop
 Inv-loop counts reply₀ t₀ reply t =
-    (t ≤ 16) × ((length reply₀ ≡ 21) × Filled reply₀ 5 (map (λ i. getD counts i 0) (below t)) reply)
+    (t ≤ mostTests) × ((length reply₀ ≡ scanNumbers) × Filled reply₀ 5 (map (λ i. getD counts i 0) (below t)) reply)
 
 abbrev μ-loop : tie.MeasureT-loop
-μ-loop counts reply₀ t₀ reply t = 16 - t
+μ-loop counts reply₀ t₀ reply t = mostTests - t
 
 array-write-reply : tie.Need-array-write-reply Inv-loop μ-loop
 array-write-reply c = search needs
@@ -70,13 +71,13 @@ returns c =
     let start = c .before .before .before .before in
     let turn = c .before .loop in
     let counts = start .args .scanned .counts in
-    let long : length counts ≡ 16 = search needs in
-    let all : turn .t ≡ 16 = omega arith in
+    let long : length counts ≡ mostTests = search needs in
+    let all : turn .t ≡ mostTests = omega arith in
     let filled = rw all at (turn .inv .1 .1) in
     let scanned = start .args .scanned in
     let front : List ℕ =
     scanned .refusal .number ∷ scanned .refusal .place ∷ scanned .refusal .need ∷ scanned .matches ∷ scanned .total ∷ [] in
-    behind _ 5 (map (λ i. getD counts i 0) (below 16)) filled (turn .inv .1 .0)
+    behind _ 5 (map (λ i. getD counts i 0) (below mostTests)) filled (turn .inv .1 .0)
     ∙ ap (λ (numbers : List ℕ). front ++ numbers) (each-number counts long)
 
 pub scanned-reply-spec : {M : Type 1} → statement M

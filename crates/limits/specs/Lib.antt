@@ -1,0 +1,2 @@
+-- How large everything may be.
+pub mod Limits
