@@ -11,3 +11,5 @@ pub mod Runs
 pub mod Those
 pub mod Tables
 pub mod SingleReply
+pub mod Sweeps
+pub mod FrontSweeps

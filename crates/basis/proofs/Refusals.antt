@@ -6,6 +6,10 @@
 --   each-fails           line by line
 --   first-of-earlier     of two tables in a row, what answers in the first answers
 --   first-of-later       and where nothing does, what answers in the second
+--   Past                 a table answers as what is left of it does: it has been walked through so far
+--   at-first             before its first line
+--   passes, stops        a walk goes past a line that fails, and stops at one that holds
+--   ends                 past the last line, none answers
 use mathlib.Core.Path.{_≡_, refl, ap, sym, _∙_}
 use mathlib.Core.Logic.{_⊎_, inl, inr}
 use mathlib.Core.List.{List, [], _∷_, _++_}
@@ -91,3 +95,19 @@ first-of-later (l ∷ lines) more e = go (either (l .holds)) (first-of-later lin
         firstLine (l ∷ (lines ++ more)) ≡ firstLine more
     go (inl h) rest = absurd (Option·some-ne-none l (sym (answers l lines h) ∙ e))
     go (inr h) rest = passed-over l (lines ++ more) h ∙ rest (sym (passed-over l lines h) ∙ e)
+
+-- a table is walked through line by line: it answers as what is left of it does
+pub record Past (lines left : List Line) : Type 0 where
+  pub alike : firstLine lines ≡ firstLine left
+
+pub at-first : (lines : List Line) → Past lines lines
+at-first lines = record { alike = refl }
+
+pub passes : {lines left : List Line} {line : Line} → Past lines (line ∷ left) → line .holds ≡ false → Past lines left
+passes {left = left} {line = line} past fails = record { alike = past .alike ∙ passed-over line left fails }
+
+pub stops : {lines left : List Line} {line : Line} → Past lines (line ∷ left) → line .holds ≡ true → firstLine lines ≡ some line
+stops {left = left} {line = line} past holds = past .alike ∙ answers line left holds
+
+pub ends : {lines : List Line} → Past lines [] → firstLine lines ≡ none
+ends past = past .alike

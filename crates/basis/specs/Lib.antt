@@ -4,3 +4,4 @@ pub mod Places
 pub mod Refusals
 pub mod Numbers
 pub mod Buffers
+pub mod Sweeps

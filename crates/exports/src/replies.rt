@@ -1,4 +1,5 @@
 // Replies as arrays of numbers: number, place and need of a refusal, then the values.
+use answers::Refusal;
 use limits::MOST_TESTS;
 use limits::READ_NUMBERS;
 use limits::SCAN_NUMBERS;
@@ -7,7 +8,6 @@ use query::Comparison;
 use query::Test;
 use register::Measured;
 use register::Opened;
-use register::Refusal;
 use rows::Listed;
 use scan::Scanned;
 use writer::Written;

@@ -1,3 +1,2 @@
 -- The lines of a listing, and a piece of bytes in a lent buffer.
-pub mod Pieces
 pub mod Lines

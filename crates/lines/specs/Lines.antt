@@ -2,11 +2,10 @@
 use Prim.Native.Nat.{ℕ}
 use mathlib.Core.List.{List, [], _∷_, _++_, map, flatten}
 use Rattle.basis.specs.Lists.{below}
-use Rattle.register.specs.declared.Refusal.{Refusal}
+use Rattle.answers.specs.declared.Refusal.{Refusal}
 use Rattle.register.specs.File.{columnsIn}
 use Rattle.register.specs.Cells.{codeAt}
-use Rattle.text.specs.Decimals.{decimal}
-use Rattle.text.specs.Lines.{space, lineFeed}
+use Rattle.decimals.specs.Decimals.{decimal, space, lineFeed}
 
 -- "rows ", " matches "
 abbrev rowsWord : List ℕ

@@ -1,10 +1,8 @@
 // The lines of a listing, each written from a place on.
-mod pieces;
-
+use answers::Refusal;
 use pieces::put;
 use pieces::put_decimal;
 use pieces::put_word;
-use register::Refusal;
 use register::Shape;
 ghost use mathlib.Core.Path.{_≡_};
 ghost use Prim.Native.Nat.{_+_, _*_, _^_, _≤_, _<_};
@@ -13,9 +11,8 @@ ghost use Rattle.limits.specs.Limits.{mostColumns, longestCell, longestLine};
 ghost use Rattle.register.specs.declared.Opened.the-variants.{Register};
 ghost use Rattle.register.specs.Opening.{openedOf};
 ghost use Rattle.register.specs.Cells.{codeAt};
-ghost use Rattle.text.specs.Decimals.{decimal};
-ghost use Rattle.text.specs.Lines.{space};
-ghost use Rattle.lines.specs.Pieces.{Wrote};
+ghost use Rattle.decimals.specs.Decimals.{decimal, space};
+ghost use Rattle.pieces.specs.Pieces.{Wrote};
 ghost use Rattle.lines.specs.Lines.{headLine, testLine, cells, rowLine, refusedLine};
 
 // The line of a refusal, which is the whole listing then.

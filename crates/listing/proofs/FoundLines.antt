@@ -21,7 +21,7 @@ use Rattle.text.specs.declared.Asked.{Asked}
 use Rattle.text.specs.Reading.{Reads, read, too-many, no-segment, no-test}
 use Rattle.schedule.specs.Schedule.{found}
 use Rattle.schedule.specs.Comparisons.{comparing}
-use Rattle.segment.specs.Scanning.{testsIn, bytesIn}
+use Rattle.asking.specs.AtFile.{testsIn, bytesIn}
 use Rattle.scan.specs.Answers.{leftIn}
 use Rattle.scan.proofs.LeftBits.{bit-left}
 use Rattle.scan.proofs.Accepting.{Accepted, fits}

@@ -6,7 +6,7 @@ use Prim.Native.Nat.{ℕ}
 use mathlib.Core.Path.{_≡_}
 use mathlib.Core.List.{List}
 use mathlib.Core.Bool.{Bool, true, false, _||_}
-use Rattle.lines.specs.Pieces.{Wrote}
+use Rattle.pieces.specs.Pieces.{Wrote}
 use Rattle.lines.specs.Lines.{refusedLine}
 use Rattle.listing.specs.Listing.{Listed}
 use Rattle.listing.specs.Inputs.{refusal18, ListedRead}

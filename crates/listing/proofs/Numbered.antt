@@ -14,7 +14,7 @@ use Rattle.basis.specs.Lists.{all}
 use Rattle.basis.specs.Refusals.{Line, firstLine}
 use Rattle.basis.proofs.Truth.{holds, both}
 use Rattle.basis.proofs.Passing.{both-pass}
-use Rattle.register.specs.Answers.{refusal}
+use Rattle.answers.specs.Answers.{refusal}
 use Rattle.register.specs.Opening.{openLines}
 use Rattle.query.specs.declared.Test.{Test}
 use Rattle.query.specs.declared.Query.{Query}

@@ -11,7 +11,7 @@ use mathlib.Core.Path.{_≡_, sym, ap, _∙_}
 use mathlib.Core.List.{List, _++_}
 use borrow.Author.Tests.{eq-eqb, ne-eqb}
 use lib.ListN.{length}
-use Rattle.register.specs.declared.Refusal.{Refusal}
+use Rattle.answers.specs.declared.Refusal.{Refusal}
 use Rattle.register.specs.declared.Opened.the-variants.{Refused}
 use Rattle.limits.specs.Limits.{mostRows}
 use Rattle.register.specs.File.{rowsIn}
@@ -19,15 +19,15 @@ use Rattle.register.specs.Opening.{openedOf}
 use Rattle.register.proofs.PassedOn.{refusal-passed-on}
 use Rattle.text.specs.declared.Asked.{Asked}
 use Rattle.scan.specs.declared.Scanned.{Scanned}
-use Rattle.packing.specs.Bits.{bytesFor}
+use Rattle.bits.specs.Bits.{bytesFor}
 use Rattle.scan.specs.Refusals.{ownLines}
 use Rattle.scan.specs.Answers.{leftIn}
 use Rattle.scan.proofs.Accepting.{Accepted}
 use Rattle.rows.specs.RowList.{markedBelow}
-use Rattle.lines.specs.Pieces.{Wrote, PieceWritten}
+use Rattle.pieces.specs.Pieces.{Wrote, PieceWritten}
 use Rattle.lines.specs.Lines.{headLine, refusedLine}
 use Rattle.listing.specs.Listing.{scanFor, testLines, rowLines, answerLines, listingOf}
-use Rattle.lines.proofs.WholePiece.{whole-piece}
+use Rattle.pieces.proofs.WholePiece.{whole-piece}
 use Rattle.listing.proofs.Numbered.{refusal-of-line, line-numbered, accepted-at-0}
 use Rattle.listing.proofs.FoundLines.{found-rows}
 

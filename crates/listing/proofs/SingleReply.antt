@@ -12,7 +12,7 @@ use mathlib.Core.Bool.{Bool, true, false}
 use lib.ListN.{length}
 use denote.Ref.{now}
 use Rattle.text.proofs.SingleReply.{single-reply}
-use Rattle.lines.specs.Pieces.{PieceWritten}
+use Rattle.pieces.specs.Pieces.{PieceWritten}
 use Rattle.lines.specs.Lines.{refusedLine}
 use Rattle.listing.specs.Listing.{listingOf, Listed}
 use Rattle.listing.specs.Inputs.{refusal18, unreadInputs, ListedRead}

@@ -6,7 +6,7 @@ use lib.Dec.{eqb}
 use lib.ListN.{getD}
 use Rattle.basis.specs.Lists.{those, below}
 use Rattle.codes.specs.Width.{slicesOf}
-use Rattle.register.specs.declared.Refusal.{Refusal}
+use Rattle.answers.specs.declared.Refusal.{Refusal}
 use Rattle.limits.specs.Limits.{mostRows}
 use Rattle.register.specs.File.{rowsIn, widthIn}
 use Rattle.query.specs.declared.Query.{Query}
@@ -17,10 +17,10 @@ use Rattle.text.specs.Reading.{Reads}
 use Rattle.schedule.specs.Schedule.{found}
 use Rattle.schedule.specs.Comparisons.{comparing}
 use Rattle.scan.specs.declared.Scanned.{Scanned}
-use Rattle.segment.specs.Scanning.{testsIn, bytesIn}
-use Rattle.packing.specs.Bits.{bytesFor}
+use Rattle.asking.specs.AtFile.{testsIn, bytesIn}
+use Rattle.bits.specs.Bits.{bytesFor}
 use Rattle.scan.specs.Answers.{scannedOf}
-use Rattle.lines.specs.Pieces.{PieceWritten}
+use Rattle.pieces.specs.Pieces.{PieceWritten}
 use Rattle.lines.specs.Lines.{headLine, testLine, rowLine, refusedLine}
 
 -- the scan that was asked for, into a result that is long enough for any register

@@ -1,5 +1,6 @@
 // Lists what a query finds in a register: how many rows match, how many bytes each test needed, and
 // each row found with its codes; or why the query is refused.
+use answers::Refusal;
 use limits::MOST_BITS;
 use limits::MOST_FILE;
 use limits::MOST_TESTS;
@@ -10,7 +11,6 @@ use lines::row_line;
 use lines::test_line;
 use query::Test;
 use register::Opened;
-use register::Refusal;
 use register::Shape;
 ghost use mathlib.Core.Path.{_≡_};
 ghost use Prim.Native.Nat.{suc, _+_, _*_, _^_, _≤_, _<_};
@@ -21,7 +21,7 @@ ghost use Rattle.register.specs.Opening.{openedOf};
 ghost use Rattle.rows.specs.RowList.{marked, markedBelow};
 ghost use Rattle.basis.specs.Lists.{those};
 ghost use mathlib.Core.List.{[], _∷_};
-ghost use Rattle.lines.specs.Pieces.{Wrote};
+ghost use Rattle.pieces.specs.Pieces.{Wrote};
 ghost use Rattle.listing.specs.Listing.{Listed, testLines, rowLines};
 ghost use Rattle.listing.specs.Inputs.{unreadInput, unreadInputs, refusal18, ListedRead};
 ghost use Rattle.listing.specs.Steps.{ColumnsBelow};

@@ -14,11 +14,11 @@ use lib.Dec.{leb, ltb}
 use lib.ListN.{length}
 use Rattle.basis.specs.Refusals.{Line, refuse, refuseAt, refuseFor, firstLine}
 use Rattle.basis.specs.Buffers.{laid}
-use Rattle.register.specs.declared.Refusal.{Refusal}
+use Rattle.answers.specs.declared.Refusal.{Refusal}
 use Rattle.register.specs.declared.Shape.{Shape}
 use Rattle.register.specs.declared.Opened.the-variants.{Register, Refused as NotOpened}
 use Rattle.register.specs.File.{rowsIn, columnsIn}
-use Rattle.register.specs.Answers.{refusal}
+use Rattle.answers.specs.Answers.{refusal}
 use Rattle.register.specs.Opening.{openedOf}
 use Rattle.register.proofs.Fit.{rows-as-opened, columns-as-opened}
 use Rattle.register.proofs.PassedOn.{refusal-passed-on, own-lines-next}

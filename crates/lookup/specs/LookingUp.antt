@@ -8,7 +8,7 @@ use Rattle.basis.specs.Refusals.{Line, refuse, refuseAt, refuseFor, firstLine, 
 use Rattle.basis.specs.Buffers.{laid}
 use Rattle.register.specs.File.{rowsIn, columnsIn}
 use Rattle.register.specs.Cells.{codeAt}
-use Rattle.register.specs.Answers.{refusal}
+use Rattle.answers.specs.Answers.{refusal}
 use Rattle.register.specs.Opening.{openLines}
 use Rattle.lookup.specs.declared.LookedUp.{LookedUp}
 use Rattle.lookup.specs.declared.LookedUp.the-variants.{Codes, Refused}

@@ -1,6 +1,6 @@
 // Looks codes up: a column and a list of rows, in any order and with repeats, give one code each.
+use answers::Refusal;
 use register::Opened;
-use register::Refusal;
 use register::Shape;
 ghost use mathlib.Core.Path.{_≡_};
 ghost use Prim.Native.Nat.{_<_, _≤_};

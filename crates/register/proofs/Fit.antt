@@ -22,7 +22,7 @@ use Rattle.register.specs.declared.Opened.the-variants.{Register, Refuse
 use Rattle.limits.specs.Limits.{mostRows, mostColumns, entryBytes, trailerBytes}
 use Rattle.register.specs.Layout.{bytesBefore}
 use Rattle.register.specs.File.{rowsIn, columnsIn, versionIn, directoryIn, markIn, mark, widthIn, unfitColumn}
-use Rattle.register.specs.Answers.{refusal}
+use Rattle.answers.specs.Answers.{refusal}
 use Rattle.register.specs.Opening.{firstUnfit, openLines, openedOf}
 use Rattle.register.proofs.Opening.{marked, right-version, few-rows, few-columns, directory-last, all-fit, accepted}
 

@@ -12,13 +12,13 @@ use borrow.Author.Tests.{lt-ltb, le-ltb}
 use lib.ListN.{length}
 use Rattle.basis.specs.Refusals.{Line, refuseFor, firstLine}
 use Rattle.basis.specs.Buffers.{laid}
-use Rattle.register.specs.declared.Refusal.{Refusal}
+use Rattle.answers.specs.declared.Refusal.{Refusal}
 use Rattle.register.specs.declared.Shape.{Shape}
 use Rattle.register.specs.declared.Opened.the-variants.{Register, Refused as NotOpened}
 use Rattle.register.specs.declared.Measured.{Measured}
 use Rattle.register.specs.declared.Measured.the-variants.{Columns, Refused}
 use Rattle.register.specs.File.{columnsIn}
-use Rattle.register.specs.Answers.{refusal}
+use Rattle.answers.specs.Answers.{refusal}
 use Rattle.register.specs.Opening.{openedOf}
 use Rattle.register.specs.Widths.{widthsOf, ownLines, widthsLines, measuredOf, shownFor, shownOf, leftIn}
 use Rattle.register.proofs.Fit.{columns-as-opened}

@@ -21,7 +21,8 @@ use Rattle.register.specs.declared.Opened.the-variants.{Register, Refuse
 use Rattle.limits.specs.Limits.{mostRows, mostColumns, entryBytes, trailerBytes}
 use Rattle.register.specs.Layout.{bytesBefore}
 use Rattle.register.specs.File.{rowsIn, columnsIn, versionIn, directoryIn, markIn, mark, widthIn}
-use Rattle.register.specs.Answers.{refusal, refusedWith, shownOf}
+use Rattle.answers.specs.Answers.{refusal}
+use Rattle.register.specs.Answers.{refusedWith, shownOf}
 use Rattle.register.specs.Opening.{firstUnfit, openLines, openedOf, shownFor}
 
 pub shown-as-answered : (file : List ℕ) → shownOf (openedOf file) ≡ shownFor file

@@ -1,14 +1,9 @@
 -- The answer to opening, case by case, and what a bench is shown of it. Assumes nothing.
 use Prim.Native.Nat.{ℕ}
 use mathlib.Core.List.{List, [], _∷_}
-use Rattle.basis.specs.Refusals.{Line}
-use Rattle.register.specs.declared.Refusal.{Refusal}
+use Rattle.answers.specs.declared.Refusal.{Refusal}
 use Rattle.register.specs.declared.Opened.{Opened}
 use Rattle.register.specs.declared.Opened.the-variants.{Register, Refused}
-
--- a line of a table of refusals, as a refusal
-abbrev pub refusal : Line → Refusal
-refusal line = record { number = line .number; place = line .place; need = line .need }
 
 -- a refused opening, by number and place
 abbrev pub refusedWith : ℕ → ℕ → Opened

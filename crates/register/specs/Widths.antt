@@ -9,7 +9,7 @@ use Rattle.basis.specs.Buffers.{laid}
 use Rattle.register.specs.declared.Measured.{Measured}
 use Rattle.register.specs.declared.Measured.the-variants.{Columns, Refused}
 use Rattle.register.specs.File.{columnsIn, widthIn}
-use Rattle.register.specs.Answers.{refusal}
+use Rattle.answers.specs.Answers.{refusal}
 use Rattle.register.specs.Opening.{openLines}
 
 -- the width of every column, in their order

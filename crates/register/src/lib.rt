@@ -1,5 +1,6 @@
 // A register's file: opening it, and what its directory says of a column. The file is lent as a
 // slice of bytes, is read where it lies and is never changed.
+use answers::Refusal;
 use limits::ENTRY_BYTES;
 use limits::MOST_COLUMNS;
 use limits::MOST_ROWS;
@@ -20,13 +21,6 @@ ghost use Rattle.basis.specs.Buffers.{laid};
 
 // The mark 42 53 4C 31 at a file's end, as a number of four bytes.
 pub const MARK: usize = 0x314C5342;
-
-// A refusal: its number in the table, its place and its need, each 0 where it has none.
-pub struct Refusal {
-    pub number: usize,
-    pub place: usize,
-    pub need: usize,
-}
 
 // What opening tells of a register.
 pub struct Shape {

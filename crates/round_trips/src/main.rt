@@ -1,9 +1,9 @@
 // Writes registers, opens them and looks every code up again, and prints what it compared; then asks
 // for what is refused, and prints the refusal and whether the output was touched.
+use answers::Refusal;
 use libc::STDOUT_FILENO;
 use lookup::LookedUp;
 use register::Opened;
-use register::Refusal;
 use writer::Written;
 ghost use mathlib.Core.Path.{_≡_};
 ghost use mathlib.Core.Bool.{true};

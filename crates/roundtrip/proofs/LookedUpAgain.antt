@@ -10,7 +10,7 @@ use borrow.Author.Tests.{lt-leb}
 use Rattle.basis.specs.Buffers.{laid}
 use Rattle.basis.proofs.Places.{first-is-none}
 use Rattle.register.specs.Cells.{codeAt}
-use Rattle.judging.specs.Table.{codeOf, FitWidths, FitCodes}
+use Rattle.table.specs.Table.{codeOf, FitWidths, FitCodes}
 use Rattle.writer.specs.Layout.{fileOf}
 use Rattle.lookup.specs.declared.LookedUp.the-variants.{Codes}
 use Rattle.lookup.specs.LookingUp.{firstMissing, codesOf, lookedUpOf, leftIn}

@@ -7,7 +7,7 @@ use mathlib.Core.Logic.{_⊎_, inl, inr}
 use mathlib.Core.List.{List}
 use Rattle.register.specs.File.{rowsIn}
 use Rattle.writer.specs.Layout.{fileOf}
-use Rattle.judging.specs.Table.{FitWidths, FitCodes}
+use Rattle.table.specs.Table.{FitWidths, FitCodes}
 use Rattle.roundtrip.specs.ReadBack.{widthsIn, codesIn}
 use Rattle.roundtrip.proofs.WrittenTrailer.{written-rows}
 use Rattle.roundtrip.proofs.ReadBack.{widths-read-back, codes-read-back}

@@ -8,7 +8,7 @@ use mathlib.Core.List.{List}
 use lib.ListN.{length, getD}
 use Rattle.register.specs.Cells.{codeAt}
 use Rattle.writer.specs.Layout.{fileOf}
-use Rattle.judging.specs.Table.{FitWidths, FitCodes}
+use Rattle.table.specs.Table.{FitWidths, FitCodes}
 use Rattle.roundtrip.specs.ReadBack.{widthsIn, codesIn}
 use Rattle.roundtrip.proofs.Elements.{made-of-each}
 use Rattle.roundtrip.proofs.WrittenTrailer.{written-rows, written-columns}

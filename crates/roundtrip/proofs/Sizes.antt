@@ -11,8 +11,8 @@ use Rattle.codes.proofs.Width.{few-slices-of}
 use Rattle.limits.specs.Limits.{mostRows, mostSlices}
 use Rattle.register.specs.Layout.{slicesBefore, bytesBefore}
 use Rattle.register.proofs.Directory.{few-bytes}
-use Rattle.judging.specs.Table.{widthOf, FitWidths}
-use Rattle.judging.proofs.Columns.{narrow}
+use Rattle.table.specs.Table.{widthOf, FitWidths}
+use Rattle.table.proofs.Columns.{narrow}
 
 module _ (widths : List ℕ) (fit : FitWidths widths) (column : ℕ) (within : column ≤ length widths) where
   pub few-slices : slicesBefore (widthOf widths) column ≤ mostSlices * column

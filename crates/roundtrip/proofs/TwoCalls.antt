@@ -6,7 +6,7 @@ use mathlib.Core.List.{List, map}
 use lib.ListN.{length, take}
 use Rattle.basis.specs.Buffers.{laid}
 use Rattle.writer.specs.declared.Written.the-variants.{Bytes}
-use Rattle.judging.specs.Table.{codeOf}
+use Rattle.table.specs.Table.{codeOf}
 use Rattle.writer.specs.Writing.{writtenOf, leftIn}
 use Rattle.writer.proofs.Fit.{accepted-is-fit, written-is-accepted}
 use Rattle.lookup.specs.declared.LookedUp.the-variants.{Codes}

@@ -15,13 +15,13 @@ use Rattle.codes.proofs.RoundTrip.{length-bytesOf}
 use Rattle.codes.proofs.Pads.{bytesOf-cleared}
 use Rattle.register.specs.Layout.{bytesBefore}
 use Rattle.register.specs.Cells.{byteAt, bytesAt}
-use Rattle.judging.specs.Table.{widthOf, codeOf, FitWidths, FitCodes}
+use Rattle.table.specs.Table.{widthOf, codeOf, FitWidths, FitCodes}
 use Rattle.slicing.specs.Body.{sliceOf}
 use Rattle.writer.specs.Layout.{fileOf}
 use Rattle.slicing.proofs.Parts.{PartAt, part-in-front}
 use Rattle.slicing.proofs.Body.{slice-in-body, byte-of-slice}
 use Rattle.roundtrip.proofs.Elements.{made-of-each}
-use Rattle.judging.proofs.Columns.{code-below}
+use Rattle.table.proofs.Columns.{code-below}
 use Rattle.roundtrip.proofs.WrittenTrailer.{written-rows}
 use Rattle.roundtrip.proofs.WrittenDirectory.{written-width, written-offset}
 

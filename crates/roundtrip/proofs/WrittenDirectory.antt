@@ -19,7 +19,7 @@ use Rattle.basis.proofs.Runs.{in-below}
 use Rattle.codes.specs.Width.{unfitWidth, slicesOf}
 use Rattle.register.specs.Layout.{slicesBefore, bytesBefore}
 use Rattle.register.specs.File.{entryIn, offsetOf, widthIn, offsetIn, unfitEntry, unfitColumn}
-use Rattle.judging.specs.Table.{widthOf, FitWidths, FitCodes}
+use Rattle.table.specs.Table.{widthOf, FitWidths, FitCodes}
 use Rattle.slicing.specs.Body.{bodyOf}
 use Rattle.writer.specs.Layout.{entryWith, directoryOf, trailerOf, fileOf}
 use Rattle.slicing.proofs.Lengths.{length-bodyOf}

@@ -6,9 +6,9 @@ use mathlib.Core.List.{List}
 use lib.ListN.{length}
 use Rattle.codes.proofs.RoundTrip.{cut-then-joined}
 use Rattle.register.specs.Cells.{codeAt}
-use Rattle.judging.specs.Table.{widthOf, codeOf, FitWidths, FitCodes}
+use Rattle.table.specs.Table.{widthOf, codeOf, FitWidths, FitCodes}
 use Rattle.writer.specs.Layout.{fileOf}
-use Rattle.judging.proofs.Columns.{code-below}
+use Rattle.table.proofs.Columns.{code-below}
 use Rattle.roundtrip.proofs.WrittenDirectory.{written-width}
 use Rattle.roundtrip.proofs.WrittenBody.{written-bytes}
 

@@ -16,7 +16,7 @@ use Rattle.basis.specs.Numbers.{little, toLittle, numberAt}
 use Rattle.basis.proofs.Numbers.{length-toLittle}
 use Rattle.register.specs.Layout.{bytesBefore}
 use Rattle.register.specs.File.{trailerIn, rowsIn, columnsIn, versionIn, directoryIn, markIn, markBytes, mark}
-use Rattle.judging.specs.Table.{widthOf, FitWidths, FitCodes}
+use Rattle.table.specs.Table.{widthOf, FitWidths, FitCodes}
 use Rattle.slicing.specs.Body.{bodyOf}
 use Rattle.writer.specs.Layout.{directoryOf, trailerWith, trailerOf, fileOf}
 use Rattle.writer.proofs.Lengths.{length-trailerWith}

@@ -17,7 +17,7 @@ use Rattle.basis.proofs.Lists.{sum-grows}
 use Rattle.basis.proofs.Members.{_∈_, any-from}
 use Rattle.basis.proofs.Runs.{in-below, run-joined}
 use Rattle.basis.proofs.Those.{those-joined, those-mapped, those-same, those-none, length-those}
-use Rattle.packing.specs.Bits.{bytesFor, bitIn}
+use Rattle.bits.specs.Bits.{bytesFor, bitIn}
 use Rattle.rows.specs.Places.{isSet, placesIn, placesOf}
 use Rattle.rows.specs.RowList.{marked, markedBelow, markedPast}
 

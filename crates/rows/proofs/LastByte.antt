@@ -11,7 +11,7 @@ use lib.ListN.{getD}
 use Rattle.basis.specs.Lists.{any, all, run, below}
 use Rattle.basis.proofs.Members.{all-gives, any-mapped, any-each-same}
 use Rattle.basis.proofs.Runs.{in-run, below-holds}
-use Rattle.packing.specs.Bits.{bytesFor}
+use Rattle.bits.specs.Bits.{bytesFor}
 use Rattle.rows.specs.Places.{isSet}
 use Rattle.rows.specs.RowList.{marked, markedPast}
 use Rattle.rows.proofs.ByteByByte.{run-moved, bit-of-byte}

@@ -9,7 +9,7 @@ use Rattle.basis.specs.Lists.{below}
 use Rattle.basis.proofs.Members.{_∈_}
 use Rattle.basis.proofs.Runs.{in-below, below-holds}
 use Rattle.basis.proofs.Those.{in-those, those-hold}
-use Rattle.packing.specs.Bits.{bitIn}
+use Rattle.bits.specs.Bits.{bitIn}
 use Rattle.rows.specs.RowList.{marked, markedBelow}
 
 module _ (rows : ℕ) (bits : List ℕ) (row : ℕ) where

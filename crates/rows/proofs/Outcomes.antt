@@ -16,8 +16,8 @@ use Rattle.basis.specs.Refusals.{Line, refuse, refuseFor, firstLine}
 use Rattle.basis.specs.Buffers.{laid}
 use Rattle.basis.proofs.Truth.{neither}
 use Rattle.limits.specs.Limits.{mostRows}
-use Rattle.register.specs.Answers.{refusal}
-use Rattle.packing.specs.Bits.{bytesFor}
+use Rattle.answers.specs.Answers.{refusal}
+use Rattle.bits.specs.Bits.{bytesFor}
 use Rattle.rows.specs.declared.Listed.{Listed}
 use Rattle.rows.specs.declared.Listed.the-variants.{Rows, Refused}
 use Rattle.rows.specs.Answers.{refusedWith, shownOf}

@@ -24,11 +24,11 @@ use Rattle.register.proofs.Fit.{opened-is-fit}
 use Rattle.query.specs.declared.Query.{Query}
 use Rattle.schedule.specs.Schedule.{found, matches}
 use Rattle.schedule.specs.Comparisons.{comparing}
-use Rattle.segment.specs.Scanning.{testsIn, bytesIn}
-use Rattle.packing.specs.Bits.{bytesFor, bitsOf}
+use Rattle.asking.specs.AtFile.{testsIn, bytesIn}
+use Rattle.bits.specs.Bits.{bytesFor, bitsOf}
 use Rattle.scan.specs.Answers.{foundBits, scannedOf, accepted, leftIn as scanLeft}
-use Rattle.packing.proofs.Packed.{length-bits}
-use Rattle.packing.proofs.EachBit.{bit-is-found}
+use Rattle.bits.proofs.Packed.{length-bits}
+use Rattle.bits.proofs.EachBit.{bit-is-found}
 use Rattle.scan.proofs.LeftBits.{left-is}
 use Rattle.scan.proofs.Accepting.{Accepted, reply, opens}
 use Rattle.rows.specs.declared.Listed.the-variants.{Rows}

@@ -17,7 +17,7 @@ use Rattle.basis.specs.Numbers.{little}
 use Rattle.basis.proofs.Numbers.{one-more-byte}
 use Rattle.basis.proofs.Runs.{in-below, run-joined}
 use Rattle.basis.proofs.Those.{those-joined, those-mapped, those-same}
-use Rattle.packing.specs.Bits.{bitIn}
+use Rattle.bits.specs.Bits.{bitIn}
 use Rattle.rows.specs.Places.{isSet, placesIn, placesOf}
 use Rattle.rows.specs.RowList.{marked, markedBelow}
 use Rattle.rows.specs.Steps.{WordRead}

@@ -8,8 +8,8 @@ use Rattle.basis.specs.Lists.{any, those, run, below}
 use Rattle.basis.specs.Refusals.{Line, refuse, refuseFor, firstLine, answerBy, shownBy}
 use Rattle.basis.specs.Buffers.{laid}
 use Rattle.limits.specs.Limits.{mostRows}
-use Rattle.register.specs.Answers.{refusal}
-use Rattle.packing.specs.Bits.{bytesFor, bitIn}
+use Rattle.answers.specs.Answers.{refusal}
+use Rattle.bits.specs.Bits.{bytesFor, bitIn}
 use Rattle.rows.specs.declared.Listed.{Listed}
 use Rattle.rows.specs.declared.Listed.the-variants.{Rows, Refused}
 

@@ -1,16 +1,16 @@
 // Turns the bits of a result into the list of the rows whose bit is set, rising.
 mod positions;
 
+use answers::Refusal;
 use limits::MOST_ROWS;
 use positions::POSITIONS;
-use register::Refusal;
 ghost use mathlib.Core.Path.{_≡_};
 ghost use Prim.Native.Nat.{_+_, _*_, _^_, _≤_, _<_};
 ghost use lib.ListN.{length, getD};
 ghost use mathlib.Core.List.{map};
 ghost use Rattle.basis.specs.Buffers.{laid};
 ghost use Rattle.limits.specs.Limits.{mostRows, fourBytes};
-ghost use Rattle.packing.specs.Bits.{bytesFor};
+ghost use Rattle.bits.specs.Bits.{bytesFor};
 ghost use Rattle.basis.specs.Lists.{below};
 ghost use Rattle.rows.specs.Places.{placesIn, placesOf, HoldsPlaces};
 ghost use Rattle.rows.specs.Steps.{rowAt, BytePut, WordRead, WordPut};

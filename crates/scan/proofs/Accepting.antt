@@ -31,7 +31,7 @@ use Rattle.query.proofs.Slots.{filled-at}
 use Rattle.schedule.specs.Schedule.{count}
 use Rattle.schedule.specs.Comparisons.{ColumnTest, comparing}
 use Rattle.scan.specs.declared.Scanned.{Scanned}
-use Rattle.segment.specs.Scanning.{widened, testsIn, bytesIn, segmentsIn}
+use Rattle.asking.specs.AtFile.{widened, testsIn, bytesIn, segmentsIn}
 use Rattle.scan.specs.Refusals.{unfitSize, testLines, ownLines, scanLines}
 use Rattle.scan.specs.Answers.{accepted, scannedOf}
 use Rattle.scan.proofs.Judging.{FitTest, each-test-fits}

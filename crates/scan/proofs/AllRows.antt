@@ -25,10 +25,10 @@ use Rattle.schedule.specs.Segments.{segments}
 use Rattle.schedule.specs.Schedule.{count, total, matches}
 use Rattle.schedule.specs.Comparisons.{ColumnTest, comparing}
 use Rattle.scan.specs.declared.Scanned.{Scanned}
-use Rattle.segment.specs.Scanning.{widened, testsIn, bytesIn, segmentsIn}
-use Rattle.packing.specs.Bits.{bitsOf}
+use Rattle.asking.specs.AtFile.{widened, testsIn, bytesIn, segmentsIn}
+use Rattle.bits.specs.Bits.{bitsOf}
 use Rattle.scan.specs.Answers.{accepted, foundBits}
-use Rattle.segment.specs.Steps.{asked}
+use Rattle.asking.specs.Judged.{asked}
 use Rattle.scan.proofs.Sizes.{Eighths}
 use Rattle.scan.proofs.SegmentSums.{foundIn, counted-in-all}
 use Rattle.scan.proofs.RowsSoFar.{SoFar}

@@ -12,7 +12,7 @@ use Rattle.query.specs.Tests.{emptySlot, testsOf, testAt}
 use Rattle.schedule.specs.Schedule.{count}
 use Rattle.schedule.specs.Comparisons.{comparing}
 use Rattle.schedule.proofs.MoreTests.{alone}
-use Rattle.segment.specs.Scanning.{widened, testsIn, bytesIn, segmentsIn}
+use Rattle.asking.specs.AtFile.{widened, testsIn, bytesIn, segmentsIn}
 use Rattle.scan.specs.Answers.{scannedOf}
 use Rattle.scan.proofs.Accepting.{Accepted, counted}
 

@@ -14,7 +14,7 @@ use Rattle.query.specs.Tests.{emptySlot, testsOf, testAt}
 use Rattle.schedule.specs.Comparisons.{ColumnTest, comparing}
 use Rattle.schedule.proofs.Bounds as schedule
 use Rattle.schedule.proofs.Six.{comparing-lawful}
-use Rattle.segment.specs.Scanning.{widened, testsIn, bytesIn}
+use Rattle.asking.specs.AtFile.{widened, testsIn, bytesIn}
 use Rattle.scan.specs.Answers.{scannedOf}
 use Rattle.scan.proofs.Accepting.{Accepted, right-size, sliced, counted}
 

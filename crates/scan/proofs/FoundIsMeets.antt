@@ -21,8 +21,8 @@ use Rattle.query.specs.Tests.{meets, testsOf}
 use Rattle.schedule.specs.Schedule.{found}
 use Rattle.schedule.specs.Comparisons.{ColumnTest, comparing}
 use Rattle.schedule.proofs.Meets as schedule
-use Rattle.segment.specs.Scanning.{widened, testsIn, bytesIn}
-use Rattle.packing.specs.Bits.{bitIn}
+use Rattle.asking.specs.AtFile.{widened, testsIn, bytesIn}
+use Rattle.bits.specs.Bits.{bitIn}
 use Rattle.scan.specs.Answers.{leftIn}
 use Rattle.scan.proofs.LeftBits.{bit-left}
 use Rattle.segment.proofs.Planning.{below-the-limit}

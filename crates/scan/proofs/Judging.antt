@@ -33,7 +33,7 @@ use Rattle.limits.specs.Limits.{mostTests}
 use Rattle.query.specs.Tests.{literalOf, emptySlot, testAt}
 use Rattle.scan.specs.declared.Verdict.the-variants.{Fit, Unfit}
 use Rattle.scan.specs.Refusals.{testLines}
-use Rattle.segment.specs.Steps.{Judged}
+use Rattle.asking.specs.Judged.{Judged}
 
 test-lines-joined : (file : List ℕ) (place : ℕ) (xs ys : List Test) →
     testLines file place (xs ++ ys) ≡ testLines file place xs ++ testLines file (place + length xs) ys

@@ -14,11 +14,11 @@ use Rattle.register.specs.File.{rowsIn}
 use Rattle.query.specs.declared.Query.{Query}
 use Rattle.schedule.specs.Schedule.{found}
 use Rattle.schedule.specs.Comparisons.{comparing}
-use Rattle.segment.specs.Scanning.{testsIn, bytesIn}
-use Rattle.packing.specs.Bits.{bytesFor, bitIn}
+use Rattle.asking.specs.AtFile.{testsIn, bytesIn}
+use Rattle.bits.specs.Bits.{bytesFor, bitIn}
 use Rattle.scan.specs.Answers.{foundBits, leftIn}
-use Rattle.packing.proofs.Packed.{length-bits}
-use Rattle.packing.proofs.EachBit.{bit-is-found}
+use Rattle.bits.proofs.Packed.{length-bits}
+use Rattle.bits.proofs.EachBit.{bit-is-found}
 use Rattle.scan.proofs.Accepting.{Accepted}
 
 module _ (file : List ℕ) (size : ℕ) (query : Query) (out : List ℕ) (yes : Accepted file size query (length out)) where

@@ -20,8 +20,8 @@ use Rattle.schedule.specs.Schedule.{count, found, matches}
 use Rattle.schedule.specs.Comparisons.{comparing}
 use Rattle.schedule.proofs.Adding.{adds-no-more}
 use Rattle.schedule.proofs.MoreTests.{more-tests-find-no-more, one-more-test}
-use Rattle.segment.specs.Scanning.{widened, testsIn, bytesIn, segmentsIn}
-use Rattle.packing.specs.Bits.{bitIn}
+use Rattle.asking.specs.AtFile.{widened, testsIn, bytesIn, segmentsIn}
+use Rattle.bits.specs.Bits.{bitIn}
 use Rattle.scan.specs.Answers.{accepted, scannedOf, leftIn}
 use Rattle.scan.proofs.LeftBits.{bit-left}
 use Rattle.scan.proofs.Accepting.{Accepted, reply, counted}

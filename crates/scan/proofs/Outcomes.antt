@@ -22,11 +22,11 @@ use Rattle.basis.specs.Buffers.{laid}
 use Rattle.basis.proofs.Truth.{either}
 use Rattle.basis.proofs.Refusals.{first-of-earlier, first-of-later}
 use Rattle.codes.specs.Width.{tooLarge}
-use Rattle.register.specs.declared.Refusal.{Refusal}
+use Rattle.answers.specs.declared.Refusal.{Refusal}
 use Rattle.register.specs.declared.Shape.{Shape}
 use Rattle.register.specs.declared.Opened.the-variants.{Register, Refused as NotOpened}
 use Rattle.register.specs.File.{rowsIn, columnsIn, widthIn}
-use Rattle.register.specs.Answers.{refusal}
+use Rattle.answers.specs.Answers.{refusal}
 use Rattle.register.specs.Opening.{openedOf}
 use Rattle.register.proofs.Fit.{opened-is-fit}
 use Rattle.register.proofs.PassedOn.{refusal-passed-on, own-lines-next}
@@ -36,7 +36,7 @@ use Rattle.limits.specs.Limits.{mostTests}
 use Rattle.query.specs.Tests.{literalOf, testsOf}
 use Rattle.scan.specs.declared.Scanned.{Scanned}
 use Rattle.scan.specs.declared.Verdict.the-variants.{Fit, Unfit}
-use Rattle.packing.specs.Bits.{bytesFor}
+use Rattle.bits.specs.Bits.{bytesFor}
 use Rattle.scan.specs.Refusals.{unfitSize, testLines, ownLines, scanLines}
 use Rattle.scan.specs.Answers.{refused, accepted, foundBits, scannedOf, leftIn}
 use Rattle.scan.specs.Steps.{verdictOf}

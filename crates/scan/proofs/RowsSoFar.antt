@@ -24,12 +24,13 @@ use Rattle.schedule.specs.Schedule.{countIn}
 use Rattle.schedule.specs.Comparisons.{comparing}
 use Rattle.schedule.proofs.Numbered.{segment-is-run}
 use Rattle.segment.specs.declared.Segment.{Segment}
-use Rattle.segment.specs.Scanning.{widened, testsIn, bytesIn}
-use Rattle.packing.specs.Bits.{bytesFor, bitsOf}
-use Rattle.standings.specs.Sweeps.{Swept}
-use Rattle.segment.specs.Steps.{SegmentScanned, asked}
-use Rattle.standings.proofs.FrontSweeps.{all-zero}
-use Rattle.packing.proofs.Packed.{bits-same, bits-joined, length-bits}
+use Rattle.asking.specs.AtFile.{widened, testsIn, bytesIn}
+use Rattle.bits.specs.Bits.{bytesFor, bitsOf}
+use Rattle.basis.specs.Sweeps.{Swept}
+use Rattle.asking.specs.Judged.{asked}
+use Rattle.segment.specs.Steps.{SegmentScanned}
+use Rattle.basis.proofs.FrontSweeps.{all-zero}
+use Rattle.bits.proofs.Packed.{bits-same, bits-joined, length-bits}
 use Rattle.scan.proofs.Sizes.{Eighths, starts-on-a-byte}
 use Rattle.scan.proofs.SegmentSums.{foundIn, countedIn}
 

@@ -24,9 +24,9 @@ use Rattle.schedule.proofs.Numbered.{length-segment, segment-starts}
 use Rattle.schedule.proofs.InOneSegment.{counts-at-most}
 use Rattle.schedule.proofs.Bounds.{count-at-most-rows-times-slices}
 use Rattle.schedule.proofs.BySegment.{count-by-segment}
-use Rattle.segment.specs.Scanning.{widened, testsIn, bytesIn}
+use Rattle.asking.specs.AtFile.{widened, testsIn, bytesIn}
 use Rattle.query.specs.Tests.{testAt}
-use Rattle.segment.specs.Steps.{asked}
+use Rattle.asking.specs.Judged.{asked}
 
 -- a row is found by the tests in the first slots
 abbrev pub foundIn : List ℕ → List Test → ℕ → ℕ → Bool

@@ -20,7 +20,7 @@ use Rattle.limits.specs.Limits.{mostRows, widest, mostSlices, mostTests, longes
 use Rattle.query.specs.declared.Test.{Test}
 use Rattle.query.specs.Tests.{testAt}
 use Rattle.segment.specs.declared.Segment.{Segment}
-use Rattle.packing.specs.Bits.{bytesFor, FoundRows}
+use Rattle.bits.specs.Bits.{bytesFor, FoundRows}
 use Rattle.segment.specs.Steps.{SegmentScanned}
 use Rattle.scan.proofs.Sizes.{Eighths}
 use Rattle.scan.proofs.SegmentSums.{foundIn, countedIn, few-counted}

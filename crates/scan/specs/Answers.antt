@@ -4,16 +4,16 @@ use mathlib.Core.List.{List, [], map}
 use lib.ListN.{length}
 use Rattle.basis.specs.Refusals.{firstLine, answerBy}
 use Rattle.basis.specs.Buffers.{laid}
-use Rattle.register.specs.declared.Refusal.{Refusal}
+use Rattle.answers.specs.declared.Refusal.{Refusal}
 use Rattle.register.specs.File.{rowsIn}
-use Rattle.register.specs.Answers.{refusal}
+use Rattle.answers.specs.Answers.{refusal}
 use Rattle.query.specs.declared.Query.{Query}
 use Rattle.query.specs.Tests.{slotsOf}
 use Rattle.schedule.specs.Schedule.{count, total, found, matches}
 use Rattle.schedule.specs.Comparisons.{comparing}
 use Rattle.scan.specs.declared.Scanned.{Scanned}
-use Rattle.segment.specs.Scanning.{testsIn, bytesIn, segmentsIn}
-use Rattle.packing.specs.Bits.{bitsOf}
+use Rattle.asking.specs.AtFile.{testsIn, bytesIn, segmentsIn}
+use Rattle.bits.specs.Bits.{bitsOf}
 use Rattle.scan.specs.Refusals.{scanLines}
 
 -- a refused scan answers 0 in every field

@@ -11,7 +11,7 @@ use Rattle.query.specs.declared.Test.{Test}
 use Rattle.query.specs.declared.Query.{Query}
 use Rattle.limits.specs.Limits.{mostTests}
 use Rattle.query.specs.Tests.{literalOf, testsOf}
-use Rattle.packing.specs.Bits.{bytesFor}
+use Rattle.bits.specs.Bits.{bytesFor}
 
 -- a segment has 8, 16, 32 or 64 rows
 unfoldable pub unfitSize : ℕ → Bool

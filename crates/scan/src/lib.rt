@@ -1,11 +1,11 @@
 // Scans a register: which rows meet every test of a query, and how many bytes each test needed. Rows
 // go by segments; a segment's slices are taken one after the other, by all tests, until none of them
 // has a row left that the next slice could decide.
+use answers::Refusal;
 use limits::MOST_TESTS;
 use query::Query;
 use query::Test;
 use register::Opened;
-use register::Refusal;
 use register::Shape;
 ghost use mathlib.Core.Path.{_≡_};
 ghost use Prim.Native.Nat.{_+_, _≤_, _<_, min};
@@ -18,11 +18,11 @@ ghost use Rattle.basis.specs.Refusals.{firstLine};
 ghost use Rattle.register.specs.declared.Opened.the-variants.{Register};
 ghost use Rattle.register.specs.Opening.{openedOf};
 ghost use Rattle.scan.specs.declared.Verdict.the-variants.{Fit};
-ghost use Rattle.packing.specs.Bits.{bytesFor};
+ghost use Rattle.bits.specs.Bits.{bytesFor};
 ghost use Rattle.scan.specs.Refusals.{unfitSize, testLines};
 ghost use Rattle.scan.specs.Answers.{refused, accepted, foundBits, scannedOf, leftIn};
-ghost use Rattle.standings.specs.Sweeps.{Swept};
-ghost use Rattle.segment.specs.Steps.{Judged, asked};
+ghost use Rattle.basis.specs.Sweeps.{Swept};
+ghost use Rattle.asking.specs.Judged.{Judged, asked};
 ghost use Rattle.scan.specs.Steps.{Small, SmallSums, verdictOf};
 
 // The reply to a scan: how many rows match, a count of bytes for each test (0 after the last) and
@@ -164,7 +164,7 @@ fn scan_rows(
         let found = segment.found;
         let read = segment.counts;
         add_counts(&mut counts, &read);
-        matches = matches + packing::put_bits(&found, n, result, first / 8);
+        matches = matches + bits::put_bits(&found, n, result, first / 8);
         first = first + n;
     }
     let total = sum_of(&counts);

@@ -15,8 +15,8 @@ use Rattle.basis.proofs.Runs.{in-below, below-holds, taken-by-number}
 use Rattle.query.specs.declared.Test.{Test}
 use Rattle.query.specs.Tests.{emptySlot, testAt}
 use Rattle.schedule.specs.Comparisons.{ColumnTest}
-use Rattle.segment.specs.Scanning.{widened, testsIn}
-use Rattle.segment.specs.Steps.{asked}
+use Rattle.asking.specs.AtFile.{widened, testsIn}
+use Rattle.asking.specs.Judged.{asked}
 
 module _ (file : List ℕ) (tests : List Test) (count : ℕ) (there : count ≤ length tests) where
   -- slot after slot

@@ -23,12 +23,12 @@ use Rattle.schedule.specs.Comparisons.{ruledOutWhen, trueWhen, comparing}
 use Rattle.schedule.proofs.EarlyEnd.{NoneCounts, counted-so-far, found-so-far}
 use Rattle.schedule.proofs.Six.{comparing-lawful}
 use Rattle.standings.specs.Standings.{kept, leftRow, failsKept}
-use Rattle.segment.specs.Scanning.{bytesIn}
+use Rattle.asking.specs.AtFile.{bytesIn}
 use Rattle.query.specs.Tests.{testAt}
-use Rattle.standings.specs.Sweeps.{Swept}
+use Rattle.basis.specs.Sweeps.{Swept}
 use Rattle.standings.specs.TakenOut.{takenOutByAll}
 use Rattle.segment.specs.Steps.{SegmentScanned}
-use Rattle.standings.proofs.FrontSweeps.{swept-from-front}
+use Rattle.basis.proofs.FrontSweeps.{swept-from-front}
 use Rattle.segment.proofs.Kept.{kept-fails}
 use Rattle.segment.proofs.ByNumber.{asked-has-slot, slot-is-asked, all-by-number}
 use Rattle.segment.proofs.Work as work

@@ -21,7 +21,7 @@ use Rattle.codes.specs.Width.{slicesOf}
 use Rattle.schedule.specs.Schedule.{keepsOpen, counts}
 use Rattle.schedule.specs.Comparisons.{equal, comparing}
 use Rattle.standings.specs.Standings.{openRow}
-use Rattle.segment.specs.Scanning.{bytesIn}
+use Rattle.asking.specs.AtFile.{bytesIn}
 use Rattle.segment.proofs.Kept.{kept-equal}
 use Rattle.segment.proofs.Work.{Work, testOf, queryOf, rowsOf, standingTo, isOut, takes}
 use Rattle.segment.proofs.Progress.{Progress}

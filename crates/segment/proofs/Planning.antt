@@ -26,8 +26,9 @@ use Rattle.register.proofs.Fit.{opened-is-fit}
 use Rattle.register.proofs.Directory.{fit-column}
 use Rattle.query.specs.declared.Test.{Test}
 use Rattle.query.specs.Tests.{literalOf, testAt}
-use Rattle.standings.specs.Sweeps.{Swept}
-use Rattle.segment.specs.Steps.{Judged, FitLiteral, Planned}
+use Rattle.basis.specs.Sweeps.{Swept}
+use Rattle.asking.specs.Judged.{Judged}
+use Rattle.segment.specs.Steps.{FitLiteral, Planned}
 
 pub narrow : (file : List ℕ) (shape : Shape) → openedOf file ≡ Register shape → (column : ℕ) → column < shape .columns →
     (0 < widthIn file column) × (widthIn file column ≤ widest)

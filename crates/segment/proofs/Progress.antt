@@ -25,9 +25,9 @@ use Rattle.basis.proofs.Runs.{in-below}
 use Rattle.schedule.specs.Comparisons.{ruledOutWhen}
 use Rattle.standings.specs.Standings.{kept, leftRow, rulesOutKept}
 use Rattle.query.specs.Tests.{testAt}
-use Rattle.standings.specs.Sweeps.{Swept}
+use Rattle.basis.specs.Sweeps.{Swept}
 use Rattle.standings.specs.TakenOut.{takenOutByAll}
-use Rattle.standings.proofs.FrontSweeps.{swept-from-front, all-zero}
+use Rattle.basis.proofs.FrontSweeps.{swept-from-front, all-zero}
 use Rattle.segment.proofs.Kept.{kept-rules-out}
 use Rattle.segment.proofs.Work as work
 use Rattle.segment.proofs.Work.{Work, FitWork, standingTo, isOut, takes, countedTo}

@@ -37,8 +37,8 @@ use Rattle.schedule.proofs.Standing.{standing-next, ruled-out-next, none-ruled-
 use Rattle.schedule.proofs.Earlier.{counts-only-within}
 use Rattle.schedule.proofs.Unread.{unread-stays}
 use Rattle.schedule.proofs.Six.{comparing-lawful}
-use Rattle.segment.specs.Scanning.{widened, testsIn, bytesIn}
-use Rattle.segment.specs.Steps.{asked}
+use Rattle.asking.specs.AtFile.{widened, testsIn, bytesIn}
+use Rattle.asking.specs.Judged.{asked}
 use Rattle.segment.proofs.ByNumber.{any-by-number, asked-has-slot}
 
 -- n rows of a file from the first on, and the first count tests

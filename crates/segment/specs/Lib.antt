@@ -1,3 +1,2 @@
 -- The schedule at a file and a query, and a segment scanned by it.
-pub mod Scanning
 pub mod Steps

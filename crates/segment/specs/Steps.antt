@@ -14,20 +14,13 @@ use Rattle.register.specs.declared.Opened.the-variants.{Register}
 use Rattle.register.specs.File.{widthIn, offsetIn}
 use Rattle.register.specs.Opening.{openedOf}
 use Rattle.query.specs.declared.Test.{Test}
+use Rattle.asking.specs.Judged.{Judged, asked}
 use Rattle.query.specs.declared.Query.{Query}
 use Rattle.query.specs.Tests.{literalOf, testAt}
 use Rattle.schedule.specs.Schedule.{countIn, found}
 use Rattle.schedule.specs.Comparisons.{comparing}
 use Rattle.segment.specs.declared.Segment.{Segment}
-use Rattle.segment.specs.Scanning.{widened, testsIn, bytesIn}
-
--- a query as it has been judged: the file opened, and every test fits it
-pub record Judged (file : List ℕ) (shape : Shape) (tests : List Test) (count : ℕ) : Type 0 where
-  pub opened : openedOf file ≡ Register shape
-  pub few : count ≤ mostTests
-  pub columns : (t : ℕ) → t < count → testAt tests t .column < shape .columns
-  pub literals : (t : ℕ) → t < count →
-      tooLarge (widthIn file (testAt tests t .column)) (literalOf (testAt tests t .comparison)) ≡ false
+use Rattle.asking.specs.AtFile.{widened, testsIn, bytesIn}
 
 -- a literal that fits its column
 abbrev pub FitLiteral : ℕ → ℕ → Type 0
@@ -50,10 +43,6 @@ pub record SegmentFit (file : List ℕ) (rows first n : ℕ) (tests : List Test)
   pub judged : Judged file (record { rows = rows; columns = columns }) tests count
   pub short : n ≤ longestSegment
   pub within : first + n ≤ rows
-
--- a query, by its slots
-abbrev pub asked : List Test → ℕ → Query
-asked tests count = record { count = count; tests = tests }
 
 -- a segment scanned: 1 for each row found and 0 for every other place; each test's count, and 0 after the last
 pub record SegmentScanned (file : List ℕ) (tests : List Test) (count first n : ℕ) (segment : Segment) : Type 0 where

@@ -19,8 +19,9 @@ ghost use Rattle.limits.specs.Limits.{mostSlices, planPlaces};
 ghost use Rattle.codes.specs.Width.{slicesOf};
 ghost use Rattle.codes.specs.Bytes.{byteOf};
 ghost use Rattle.codes.specs.Pad.{highOf};
-ghost use Rattle.standings.specs.Sweeps.{Swept};
-ghost use Rattle.segment.specs.Steps.{FitLiteral, Judged, Planned, SegmentFit, SegmentScanned};
+ghost use Rattle.basis.specs.Sweeps.{Swept};
+ghost use Rattle.asking.specs.Judged.{Judged};
+ghost use Rattle.segment.specs.Steps.{FitLiteral, Planned, SegmentFit, SegmentScanned};
 
 // The plan of a query, made once: where each test's column starts and how many slices it has, and the
 // low and high byte of its literal in each slice, four to a test.

@@ -16,7 +16,7 @@ use Rattle.writer.specs.Layout.{entryWith, directoryOf, trailerWith, trailerOf,
 use Rattle.writer.specs.Writing as writes
 use Rattle.schedule.specs.Segments.{segmentCount, segment, segments}
 use Rattle.schedule.specs.Schedule.{standing, ruledOut, keepsOpen, counts, countIn, count, total, found, matches}
-use Rattle.packing.specs.Bits.{bytesFor, bitsAt, bitsOf, bitIn}
+use Rattle.bits.specs.Bits.{bytesFor, bitsAt, bitsOf, bitIn}
 use Rattle.scan.specs.Refusals.{unfitSize, testLines, ownLines}
 use Rattle.scan.specs.Answers as scans
 use Rattle.rows.specs.RowList as lists

@@ -11,7 +11,7 @@ use Rattle.basis.proofs.Runs.{mapped-at}
 use Rattle.codes.specs.Width.{slicesOf}
 use Rattle.codes.specs.Bytes.{byteOf}
 use Rattle.register.specs.Layout.{slicesBefore, bytesBefore}
-use Rattle.judging.specs.Table.{widthOf, codeOf}
+use Rattle.table.specs.Table.{widthOf, codeOf}
 use Rattle.slicing.specs.Body.{sliceOf, columnOf, bodyOf}
 use Rattle.slicing.proofs.Lengths.{length-sliceOf, length-slices, length-columns}
 use Rattle.slicing.proofs.Parts.{PartAt, part-of-part, element-of-part}

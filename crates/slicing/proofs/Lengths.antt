@@ -12,7 +12,7 @@ use Rattle.basis.specs.Lists.{below}
 use Rattle.basis.proofs.Lists.{length-run, length-flatten, sum-of-same, sum-scaled}
 use Rattle.codes.specs.Width.{slicesOf}
 use Rattle.register.specs.Layout.{slicesBefore, bytesBefore}
-use Rattle.judging.specs.Table.{widthOf}
+use Rattle.table.specs.Table.{widthOf}
 use Rattle.slicing.specs.Body.{sliceOf, columnOf, bodyOf}
 
 module _ (rows : ℕ) (widths codes : List ℕ) where

@@ -5,7 +5,7 @@ use lib.ListN.{length}
 use Rattle.basis.specs.Lists.{below}
 use Rattle.codes.specs.Width.{slicesOf}
 use Rattle.codes.specs.Bytes.{byteOf}
-use Rattle.judging.specs.Table.{widthOf, codeOf}
+use Rattle.table.specs.Table.{widthOf, codeOf}
 
 module _ (rows : ℕ) (widths codes : List ℕ) where
   -- a slice of a column: its byte of every row, in row order

@@ -5,7 +5,7 @@ use mathlib.Core.List.{List}
 use lib.ListN.{length, getD}
 use Rattle.limits.specs.Limits.{blockRows}
 use Rattle.register.specs.Layout.{bytesBefore}
-use Rattle.judging.specs.Table.{widthOf}
+use Rattle.table.specs.Table.{widthOf}
 
 -- a block of rows, and a buffer with room for the body
 pub record FitBlock (rows : ℕ) (widths : List ℕ) (first n : ℕ) (out : List ℕ) : Type 0 where

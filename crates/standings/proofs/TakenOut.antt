@@ -16,9 +16,9 @@ use Rattle.query.specs.declared.Comparison.{Comparison}
 use Rattle.query.specs.declared.Test.{Test}
 use Rattle.standings.specs.Standings.{leftRow}
 use Rattle.query.specs.Tests.{testAt}
-use Rattle.standings.specs.Sweeps.{Swept}
+use Rattle.basis.specs.Sweeps.{Swept}
 use Rattle.standings.specs.TakenOut.{takenOut, takenOutByAll}
-use Rattle.standings.proofs.FrontSweeps.{swept-from-front, swept-alike, swept-twice, swept-all-kept}
+use Rattle.basis.proofs.FrontSweeps.{swept-from-front, swept-alike, swept-twice, swept-all-kept}
 
 -- one rule after another
 pub left-by-either : (first second : Bool) (in-still : ℕ) → leftRow second (leftRow first in-still) ≡ leftRow (first || second) in-still

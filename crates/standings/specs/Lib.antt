@@ -1,4 +1,3 @@
 -- The standing of a row to each test, and the rows that are still in.
-pub mod Sweeps
 pub mod Standings
 pub mod TakenOut

@@ -13,7 +13,7 @@ ghost use lib.Dec.{ltb};
 ghost use lib.ListN.{length, getD};
 ghost use Rattle.limits.specs.Limits.{mostTests, longestSegment, standingPlaces};
 ghost use Rattle.standings.specs.Standings.{steppedRow, openRow, rulesOutKept, failsKept};
-ghost use Rattle.standings.specs.Sweeps.{Swept};
+ghost use Rattle.basis.specs.Sweeps.{Swept};
 ghost use Rattle.standings.specs.TakenOut.{takenOutBy, takenOut, takenOutByAll};
 
 // The standing after one more byte.

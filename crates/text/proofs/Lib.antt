@@ -1,6 +1,4 @@
 -- The laws of a query's text and of reading it.
-pub mod Words
-pub mod Decimals
 pub mod Lines
 pub mod Places
 pub mod Numbers

@@ -20,10 +20,10 @@ use Rattle.query.specs.declared.Comparison.{Comparison}
 use Rattle.query.specs.declared.Comparison.the-variants.{Less, AtMost, More, AtLeast, Equal, Differs}
 use Rattle.query.specs.declared.Test.{Test}
 use Rattle.query.specs.Tests.{literalOf}
-use Rattle.text.specs.Decimals.{decimal}
-use Rattle.text.specs.Lines.{space, lineFeed, segmentWord, signOf, segmentLine, testLine, textOf, SmallTest}
-use Rattle.text.proofs.Words.{AllOf, same-word}
-use Rattle.text.proofs.Decimals.{decimal-some, same-decimal}
+use Rattle.decimals.specs.Decimals.{decimal, space, lineFeed}
+use Rattle.text.specs.Lines.{segmentWord, signOf, segmentLine, testLine, textOf, SmallTest}
+use Rattle.decimals.proofs.Words.{AllOf, same-word}
+use Rattle.decimals.proofs.Decimals.{decimal-some, same-decimal}
 
 pub segment-line-then : (size : ℕ) (rest : List ℕ) → segmentLine size ++ rest ≡ segmentWord ++ (decimal size ++ (lineFeed ∷ rest))
 unfolding segmentLine

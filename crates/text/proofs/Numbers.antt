@@ -19,10 +19,10 @@ use Rattle.text.specs.declared.After.{After}
 use Rattle.text.specs.declared.After.the-variants.{Space, LineFeed}
 use Rattle.text.specs.declared.Number.{Number}
 use Rattle.text.specs.declared.Number.the-variants.{Value, NoNumber}
-use Rattle.text.specs.Decimals.{digit, decimal}
+use Rattle.decimals.specs.Decimals.{digit, decimal}
 use Rattle.text.specs.Steps.{afterByte, endedBy, NumberAt, DigitsAt}
-use Rattle.text.proofs.Words.{byte-of-word}
-use Rattle.text.proofs.Decimals.{
+use Rattle.decimals.proofs.Words.{byte-of-word}
+use Rattle.decimals.proofs.Decimals.{
   IsDigit,
   decimal-of-digit,
   decimal-one-more,

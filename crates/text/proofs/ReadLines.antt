@@ -19,11 +19,11 @@ use Rattle.text.specs.declared.Number.{Number}
 use Rattle.text.specs.declared.Number.the-variants.{Value, NoNumber}
 use Rattle.text.specs.declared.Sign.the-variants.{Compares, NoSign}
 use Rattle.text.specs.declared.Line.the-variants.{Asks, Malformed}
-use Rattle.text.specs.Decimals.{decimal}
-use Rattle.text.specs.Lines.{space, lineFeed, segmentWord, signOf, testLine, SmallTest}
+use Rattle.decimals.specs.Decimals.{decimal, space, lineFeed}
+use Rattle.text.specs.Lines.{segmentWord, signOf, testLine, SmallTest}
 use Rattle.text.specs.Reading.{BeginsSegment}
 use Rattle.text.specs.Steps.{NumberAt, SegmentAt, SignAt, LineAt}
-use Rattle.text.proofs.Decimals.{same-decimal}
+use Rattle.decimals.proofs.Decimals.{same-decimal}
 use Rattle.text.proofs.Lines.{segment-line-then, test-line-then, same-sign}
 use Rattle.text.proofs.Places.{front-by-bytes}
 

@@ -16,8 +16,8 @@ use Rattle.query.specs.Tests.{emptySlot}
 use Rattle.text.specs.declared.Asked.{Asked}
 use Rattle.text.specs.declared.After.the-variants.{LineFeed}
 use Rattle.text.specs.declared.Number.the-variants.{NoNumber}
-use Rattle.text.specs.Decimals.{decimal, decimalIn}
-use Rattle.text.specs.Lines.{lineFeed, segmentWord, segmentLine, testLine, textOf}
+use Rattle.decimals.specs.Decimals.{decimal, decimalIn, lineFeed}
+use Rattle.text.specs.Lines.{segmentWord, segmentLine, testLine, textOf}
 use Rattle.text.specs.Reading.{accepted, refusedWith, Formed, Reads}
 use Rattle.text.proofs.Formed.{no-tests, test-before}
 use Rattle.text.proofs.Numbers.{leading-zero}

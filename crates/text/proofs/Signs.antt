@@ -13,7 +13,8 @@ use Rattle.query.specs.declared.Comparison.{Comparison}
 use Rattle.query.specs.declared.Comparison.the-variants.{Less, AtMost, More, AtLeast, Equal, Differs}
 use Rattle.text.specs.declared.Sign.{Sign}
 use Rattle.text.specs.declared.Sign.the-variants.{Compares, NoSign}
-use Rattle.text.specs.Lines.{space, signOf}
+use Rattle.decimals.specs.Decimals.{space}
+use Rattle.text.specs.Lines.{signOf}
 use Rattle.text.specs.Steps.{SignAt, spacedAt}
 use Rattle.text.proofs.Places.{byte-within, byte-then, byte-further, by-byte}
 

@@ -1,5 +1,4 @@
 -- The text of a query, and what reading one answers.
-pub mod Decimals
 pub mod Lines
 pub mod Reading
 pub mod Steps

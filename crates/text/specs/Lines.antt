@@ -7,13 +7,7 @@ use Rattle.query.specs.declared.Comparison.{Comparison}
 use Rattle.query.specs.declared.Comparison.the-variants.{Less, AtMost, More, AtLeast, Equal, Differs}
 use Rattle.query.specs.declared.Test.{Test}
 use Rattle.query.specs.Tests.{literalOf}
-use Rattle.text.specs.Decimals.{decimal}
-
-abbrev pub space : ℕ
-space = 32
-
-abbrev pub lineFeed : ℕ
-lineFeed = 10
+use Rattle.decimals.specs.Decimals.{space, lineFeed, decimal}
 
 -- the word "segment" and the space after it
 abbrev pub segmentWord : List ℕ

@@ -16,8 +16,8 @@ use Rattle.text.specs.declared.Sign.{Sign}
 use Rattle.text.specs.declared.Sign.the-variants.{Compares, NoSign}
 use Rattle.text.specs.declared.Line.{Line}
 use Rattle.text.specs.declared.Line.the-variants.{Asks, Malformed}
-use Rattle.text.specs.Decimals.{decimal}
-use Rattle.text.specs.Lines.{space, lineFeed, signOf, segmentLine, testLine, SmallTest}
+use Rattle.decimals.specs.Decimals.{decimal, space, lineFeed}
+use Rattle.text.specs.Lines.{signOf, segmentLine, testLine, SmallTest}
 use Rattle.text.specs.Reading.{BeginsSegment}
 
 -- the byte that must follow a decimal

@@ -1,11 +1,11 @@
 // Reads the text of a query: a line with the segment size and a line for each test. The text is
 // gone through once, from its first byte to its last.
+use answers::Refusal;
 use limits::DECIMAL_LIMIT;
 use limits::MOST_TESTS;
 use query::Comparison;
 use query::Query;
 use query::Test;
-use register::Refusal;
 ghost use mathlib.Core.Path.{_≡_};
 ghost use Prim.Native.Nat.{_+_, _<_, _≤_};
 ghost use lib.Dec.{eqb};

@@ -1,11 +1,11 @@
 // Reads texts that stand below and prints a line for each: its name, then the size and the tests
 // that reading answers, or the refusal. Each name says what is to be seen in the text.
+use answers::Refusal;
 use libc::STDOUT_FILENO;
 use limits::MOST_TESTS;
 use query::Comparison;
 use query::Query;
 use query::Test;
-use register::Refusal;
 ghost use mathlib.Core.Path.{_≡_};
 ghost use Prim.Native.Nat.{_≤_};
 ghost use lib.ListN.{length};

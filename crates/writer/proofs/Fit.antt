@@ -17,9 +17,9 @@ use Rattle.basis.proofs.Refusals.{none-when-accepted, each-fails}
 use Rattle.basis.proofs.Truth.{neither}
 use Rattle.codes.specs.Width.{unfitWidth, tooLarge}
 use Rattle.limits.specs.Limits.{mostRows, mostColumns}
-use Rattle.register.specs.Answers.{refusal}
+use Rattle.answers.specs.Answers.{refusal}
 use Rattle.writer.specs.declared.Written.the-variants.{Bytes, Refused}
-use Rattle.judging.specs.Table.{widthOf, FitWidths, FitCodes, firstUnfit, firstTooLarge}
+use Rattle.table.specs.Table.{widthOf, FitWidths, FitCodes, firstUnfit, firstTooLarge}
 use Rattle.writer.specs.Layout.{fileLength}
 use Rattle.writer.specs.Writing.{writeLines, writtenOf}
 use Rattle.writer.proofs.Writing as writing

@@ -15,7 +15,7 @@ use Rattle.basis.specs.Lists.{below}
 use Rattle.basis.proofs.Lists.{length-flatten, sum-of-same}
 use Rattle.basis.proofs.Numbers.{length-toLittle}
 use Rattle.register.specs.Layout.{bytesBefore}
-use Rattle.judging.specs.Table.{widthOf}
+use Rattle.table.specs.Table.{widthOf}
 use Rattle.slicing.proofs.Lengths.{length-bodyOf}
 use Rattle.writer.specs.Layout.{entryWith, directoryOf, trailerWith, trailerOf, fileLength, fileOf}
 

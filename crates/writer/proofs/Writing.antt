@@ -20,12 +20,12 @@ use borrow.Author.Tests.{lt-ltb, le-ltb, eq-eqb, ne-eqb}
 use Rattle.basis.specs.Buffers.{laid}
 use Rattle.basis.specs.Refusals.{Line, refuse, refuseAt, refuseFor, answerBy, firstLine, shownBy}
 use Rattle.limits.specs.Limits.{mostRows, mostColumns}
-use Rattle.register.specs.Answers.{refusal}
+use Rattle.answers.specs.Answers.{refusal}
 use Rattle.writer.specs.declared.Written.{Written}
 use Rattle.writer.specs.declared.Written.the-variants.{Bytes, Refused}
 use Rattle.writer.specs.Layout.{fileLength, fileOf}
 use Rattle.writer.specs.Answers.{shownOf}
-use Rattle.judging.specs.Table.{firstUnfit, firstTooLarge}
+use Rattle.table.specs.Table.{firstUnfit, firstTooLarge}
 use Rattle.writer.specs.Writing.{writeLines, writtenOf, shownFor, leftIn}
 
 -- the line that answers

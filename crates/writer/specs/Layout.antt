@@ -7,7 +7,7 @@ use Rattle.basis.specs.Lists.{below}
 use Rattle.basis.specs.Numbers.{toLittle}
 use Rattle.register.specs.Layout.{bytesBefore}
 use Rattle.register.specs.File.{markBytes}
-use Rattle.judging.specs.Table.{widthOf}
+use Rattle.table.specs.Table.{widthOf}
 use Rattle.slicing.specs.Body.{bodyOf}
 
 -- an entry of the directory: width, three zero bytes, offset of the column's slice 1 (4 bytes)

@@ -7,8 +7,8 @@ use lib.ListN.{length}
 use Rattle.basis.specs.Refusals.{Line, refuse, refuseAt, refuseFor, firstLine, answerBy, shownBy}
 use Rattle.basis.specs.Buffers.{laid}
 use Rattle.limits.specs.Limits.{mostRows, mostColumns}
-use Rattle.register.specs.Answers.{refusal}
-use Rattle.judging.specs.Table.{firstUnfit, firstTooLarge}
+use Rattle.answers.specs.Answers.{refusal}
+use Rattle.table.specs.Table.{firstUnfit, firstTooLarge}
 use Rattle.writer.specs.declared.Written.{Written}
 use Rattle.writer.specs.declared.Written.the-variants.{Bytes, Refused}
 use Rattle.writer.specs.Layout.{fileOf, fileLength}

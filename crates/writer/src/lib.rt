@@ -1,10 +1,10 @@
 // Writes a register's file into a lent buffer: rows of codes become slices, one after the other,
 // and the directory and the trailer follow. Nothing is stored besides.
+use answers::Refusal;
 use limits::ENTRY_BYTES;
 use limits::MOST_COLUMNS;
 use limits::MOST_ROWS;
 use limits::TRAILER_BYTES;
-use register::Refusal;
 ghost use mathlib.Core.Path.{_≡_};
 ghost use Prim.Native.Nat.{_+_, _*_, _≤_, _<_};
 ghost use lib.ListN.{length};
@@ -12,7 +12,7 @@ ghost use Rattle.basis.specs.Buffers.{laid};
 ghost use Rattle.basis.specs.Numbers.{toLittle};
 ghost use Rattle.register.specs.Layout.{slicesBefore, bytesBefore};
 ghost use Rattle.limits.specs.Limits.{mostRows, mostColumns, mostSlices, entryBytes, trailerBytes};
-ghost use Rattle.judging.specs.Table.{widthOf, FitWidths, FitCodes};
+ghost use Rattle.table.specs.Table.{widthOf, FitWidths, FitCodes};
 ghost use Rattle.writer.specs.Layout.{entryWith, directoryOf, trailerWith, fileOf};
 ghost use Rattle.writer.specs.Answers.{refusedWith, shownOf};
 ghost use Rattle.writer.specs.Writing.{writtenOf, shownFor, leftIn};
@@ -40,14 +40,14 @@ pub fn write(rows: usize, widths: &[u8], codes: &[u64], out: &mut [u8]) -> Writt
     if MOST_COLUMNS < columns {
         return refused(4, 0, 0);
     }
-    let unfit = judging::first_unfit(widths);
+    let unfit = table::first_unfit(widths);
     if unfit < columns {
         return refused(6, unfit, 0);
     }
     if codes.len() != rows * columns {
         return refused(9, 0, 0);
     }
-    let large = judging::first_too_large(rows, widths, codes);
+    let large = table::first_too_large(rows, widths, codes);
     if large < codes.len() {
         return refused(8, large, 0);
     }

@@ -2,7 +2,7 @@
 use native.Mathlib.Omega.{arith}
 use borrow.Author.Needs.{needs}
 use Rattle.lines.specs.Lines.{headLine}
-use Rattle.lines.proofs.Writing.{written-then}
+use Rattle.pieces.proofs.Writing.{written-then}
 use Rattle.lines.proofs.head_line.Statement.{statement}
 use Rattle.lines.proofs.head_line.Tie as tie
 

@@ -1,7 +1,7 @@
 -- `lines::put_cell` meets its contract: a space, and the code behind it. Assumes nothing.
 use native.Mathlib.Omega.{arith}
 use borrow.Author.Needs.{needs}
-use Rattle.lines.proofs.Writing.{written-then}
+use Rattle.pieces.proofs.Writing.{written-then}
 use Rattle.lines.proofs.put_cell.Statement.{statement}
 use Rattle.lines.proofs.put_cell.Tie as tie
 

@@ -6,11 +6,10 @@ use mathlib.Core.Path.{_≡_}
 use mathlib.Core.List.{List, _∷_, _++_, flatten}
 use Rattle.basis.proofs.Lists.{joined-one-more}
 use Rattle.register.specs.Cells.{codeAt}
-use Rattle.text.specs.Decimals.{decimal}
-use Rattle.text.specs.Lines.{space}
-use Rattle.lines.specs.Pieces.{Wrote}
+use Rattle.decimals.specs.Decimals.{decimal, space}
+use Rattle.pieces.specs.Pieces.{Wrote}
 use Rattle.lines.specs.Lines.{cells}
-use Rattle.lines.proofs.Writing.{same-room, wrote-nothing, written-then}
+use Rattle.pieces.proofs.Writing.{same-room, wrote-nothing, written-then}
 use Rattle.lines.proofs.Shapes.{few-columns}
 use Rattle.lines.proofs.put_cells.Statement.{statement}
 use Rattle.lines.proofs.put_cells.Tie as tie

@@ -1,7 +1,7 @@
 -- `lines::refused_line` meets its contract: its words and numbers, one behind the other. Assumes nothing.
 use borrow.Author.Needs.{needs}
 use Rattle.lines.specs.Lines.{refusedLine}
-use Rattle.lines.proofs.Writing.{written-then}
+use Rattle.pieces.proofs.Writing.{written-then}
 use Rattle.lines.proofs.refused_line.Statement.{statement}
 use Rattle.lines.proofs.refused_line.Tie as tie
 

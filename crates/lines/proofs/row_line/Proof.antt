@@ -2,7 +2,7 @@
 use native.Mathlib.Omega.{arith}
 use borrow.Author.Needs.{needs}
 use Rattle.lines.specs.Lines.{rowLine}
-use Rattle.lines.proofs.Writing.{written-then}
+use Rattle.pieces.proofs.Writing.{written-then}
 use Rattle.lines.proofs.Shapes.{same-columns}
 use Rattle.lines.proofs.row_line.Statement.{statement}
 use Rattle.lines.proofs.row_line.Tie as tie

@@ -2,7 +2,7 @@
 use native.Mathlib.Omega.{arith}
 use mathlib.Core.Path.{sym, _∙_}
 use Rattle.listing.proofs.OneMore.{marked-line, unmarked-line}
-use Rattle.lines.proofs.Writing.{wrote-nothing}
+use Rattle.pieces.proofs.Writing.{wrote-nothing}
 use borrow.Author.Needs.{needs}
 use Rattle.listing.proofs.put_row.Statement.{statement}
 use Rattle.listing.proofs.put_row.Tie as tie

@@ -5,9 +5,9 @@ use mathlib.Core.Path.{_≡_}
 use mathlib.Core.List.{flatten}
 use Rattle.limits.specs.Limits.{longestLine}
 use Rattle.rows.specs.RowList.{markedBelow}
-use Rattle.lines.specs.Pieces.{Wrote}
+use Rattle.pieces.specs.Pieces.{Wrote}
 use Rattle.listing.specs.Listing.{rowLines}
-use Rattle.lines.proofs.Writing.{same-room, wrote-nothing, written-then}
+use Rattle.pieces.proofs.Writing.{same-room, wrote-nothing, written-then}
 use Rattle.listing.proofs.OneMore.{row-more}
 use Rattle.lines.proofs.Shapes.{few-rows}
 use Rattle.listing.proofs.row_lines.Statement.{statement}

@@ -6,9 +6,9 @@ use mathlib.Core.List.{flatten}
 use borrow.Author.Needs.{needs}
 use Rattle.codes.specs.Width.{slicesOf}
 use Rattle.limits.specs.Limits.{mostRows, mostSlices, longestLine}
-use Rattle.lines.specs.Pieces.{Wrote}
+use Rattle.pieces.specs.Pieces.{Wrote}
 use Rattle.listing.specs.Listing.{testLines}
-use Rattle.lines.proofs.Writing.{same-room, wrote-nothing, written-then}
+use Rattle.pieces.proofs.Writing.{same-room, wrote-nothing, written-then}
 use Rattle.listing.proofs.OneMore.{test-more}
 use Rattle.lines.proofs.Shapes.{same-rows, few-bytes}
 use Rattle.listing.proofs.test_lines.Statement.{statement}

@@ -8,10 +8,10 @@ use Rattle.limits.specs.Limits.{mostRows, mostBits}
 use Rattle.register.specs.Answers.{refusalOf}
 use Rattle.register.specs.Opening.{openedOf}
 use Rattle.scan.specs.declared.Scanned.{Scanned}
-use Rattle.packing.specs.Bits.{bytesFor}
+use Rattle.bits.specs.Bits.{bytesFor}
 use Rattle.scan.specs.Answers.{scannedOf}
 use Rattle.listing.specs.Listing.{scanFor}
-use Rattle.lines.proofs.Writing.{written-then}
+use Rattle.pieces.proofs.Writing.{written-then}
 use Rattle.lines.proofs.Shapes.{same-rows, same-columns}
 use Rattle.listing.proofs.FoundLines.{reads-small, columns-below}
 use Rattle.listing.proofs.Outcomes.{accepted-scan, text-refused, not-opened, scan-refused, all-listed}

@@ -7,7 +7,7 @@ use lib.Dec.{lit<, eqb}
 use lib.ListN.{List·getD-eq-default}
 use lib.Pow.{shl-exact, pow-pos}
 use borrow.Author.Needs.{needs}
-use Rattle.packing.specs.Bits.{bitIn}
+use Rattle.bits.specs.Bits.{bitIn}
 use Rattle.rows.proofs.is_marked.Statement.{statement}
 use Rattle.rows.proofs.is_marked.Tie as tie
 

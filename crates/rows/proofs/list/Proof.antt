@@ -7,7 +7,7 @@ use mathlib.Core.Bool.{false}
 use lib.ListN.{length}
 use borrow.Author.Needs.{needs}
 use Rattle.limits.specs.Limits.{mostRows}
-use Rattle.packing.specs.Bits.{bytesFor}
+use Rattle.bits.specs.Bits.{bytesFor}
 use Rattle.rows.specs.declared.Listed.the-variants.{Rows}
 use Rattle.rows.specs.Answers.{refusedWith}
 use Rattle.rows.specs.Places.{placesIn}

@@ -6,7 +6,7 @@ use mathlib.Core.Path.{_≡_, sym, ap, _∙_}
 use lib.Dec.{lit<, leb}
 use lib.Pow.{shl-exact}
 use borrow.Author.Needs.{needs}
-use Rattle.packing.specs.Bits.{bytesFor}
+use Rattle.bits.specs.Bits.{bytesFor}
 use Rattle.rows.proofs.LastByte.{whole-bytes, part-of-byte}
 use Rattle.rows.proofs.marked_past.Statement.{statement}
 use Rattle.rows.proofs.marked_past.Tie as tie

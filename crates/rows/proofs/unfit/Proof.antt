@@ -2,7 +2,7 @@
 use mathlib.Core.Path.{_∙_, sym}
 use borrow.Author.Tests.{eq-eqb, ne-eqb}
 use borrow.Author.Needs.{needs}
-use Rattle.packing.specs.Bits.{bytesFor}
+use Rattle.bits.specs.Bits.{bytesFor}
 use Rattle.rows.specs.RowList.{unfitBits}
 use Rattle.rows.proofs.unfit.Statement.{statement}
 use Rattle.rows.proofs.unfit.Tie as tie

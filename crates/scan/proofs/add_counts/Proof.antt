@@ -4,9 +4,9 @@ use native.Mathlib.Omega.{arith}
 use mathlib.Core.Path.{_≡_}
 use lib.ListN.{getD}
 use Rattle.limits.specs.Limits.{mostTests}
-use Rattle.standings.specs.Sweeps.{Swept}
-use Rattle.standings.proofs.FrontSweeps.{swept-next}
-use Rattle.standings.proofs.Sweeps.{swept-nothing}
+use Rattle.basis.specs.Sweeps.{Swept}
+use Rattle.basis.proofs.FrontSweeps.{swept-next}
+use Rattle.basis.proofs.Sweeps.{swept-nothing}
 use Rattle.scan.proofs.add_counts.Statement.{statement}
 use Rattle.scan.proofs.add_counts.Tie as tie
 

@@ -16,7 +16,7 @@ use Rattle.query.specs.Tests.{testsOf}
 use Rattle.scan.specs.declared.Verdict.the-variants.{Fit}
 use Rattle.scan.specs.Steps.{verdictOf}
 use Rattle.scan.specs.Refusals.{testLines, unfitSize}
-use Rattle.packing.specs.Bits.{bytesFor}
+use Rattle.bits.specs.Bits.{bytesFor}
 use Rattle.scan.specs.Answers.{refused}
 use Rattle.scan.proofs.Outcomes as outcomes
 use Rattle.scan.proofs.scan.Statement.{statement}

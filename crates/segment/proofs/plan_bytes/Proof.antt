@@ -8,8 +8,8 @@ use Rattle.codes.specs.Width.{slicesOf}
 use Rattle.codes.specs.Bytes.{byteOf}
 use Rattle.codes.specs.Pad.{highOf}
 use Rattle.codes.proofs.Width.{few-slices-of}
-use Rattle.standings.specs.Sweeps.{Swept}
-use Rattle.standings.proofs.Sweeps.{swept-nothing, swept-one-more}
+use Rattle.basis.specs.Sweeps.{Swept}
+use Rattle.basis.proofs.Sweeps.{swept-nothing, swept-one-more}
 use Rattle.segment.proofs.plan_bytes.Statement.{statement}
 use Rattle.segment.proofs.plan_bytes.Tie as tie
 

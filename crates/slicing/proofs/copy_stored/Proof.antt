@@ -8,10 +8,10 @@ use lib.ListN.{length, length-set}
 use Rattle.limits.specs.Limits.{fourBytes}
 use Rattle.codes.specs.Width.{padOf}
 use Rattle.codes.specs.Bytes.{storedOf}
-use Rattle.judging.specs.Table.{widthOf, codeOf}
-use Rattle.judging.specs.Judging.{Holds}
-use Rattle.judging.proofs.Columns.{code-there, stored-small}
-use Rattle.judging.proofs.Holding.{holds-nothing, holds-one-more}
+use Rattle.table.specs.Table.{widthOf, codeOf}
+use Rattle.table.specs.Judging.{Holds}
+use Rattle.table.proofs.Columns.{code-there, stored-small}
+use Rattle.table.proofs.Holding.{holds-nothing, holds-one-more}
 use Rattle.slicing.proofs.copy_stored.Statement.{statement}
 use Rattle.slicing.proofs.copy_stored.Tie as tie
 

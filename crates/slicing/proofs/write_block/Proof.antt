@@ -5,10 +5,10 @@ use mathlib.Core.Path.{_≡_, ap, _∙_}
 use borrow.Author.Needs.{needs}
 use lib.ListN.{length}
 use Rattle.register.specs.Layout.{slicesBefore}
-use Rattle.judging.specs.Table.{widthOf}
+use Rattle.table.specs.Table.{widthOf}
 use Rattle.slicing.specs.Body.{bodyOf}
 use Rattle.slicing.specs.Putting.{Put}
-use Rattle.judging.proofs.Columns.{Counted, none-counted, one-more-counted}
+use Rattle.table.proofs.Columns.{Counted, none-counted, one-more-counted}
 use Rattle.slicing.proofs.Putting.{put-nothing, put-slices}
 use Rattle.slicing.proofs.write_block.Statement.{statement}
 use Rattle.slicing.proofs.write_block.Tie as tie

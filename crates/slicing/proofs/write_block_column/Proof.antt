@@ -7,11 +7,11 @@ use borrow.Author.Needs.{needs}
 use lib.ListN.{length}
 use Rattle.limits.specs.Limits.{mostSlices}
 use Rattle.codes.specs.Width.{slicesOf}
-use Rattle.judging.specs.Table.{widthOf}
+use Rattle.table.specs.Table.{widthOf}
 use Rattle.slicing.specs.Body.{bodyOf}
 use Rattle.slicing.specs.Putting.{Put}
 use Rattle.codes.proofs.Width.{few-slices-of}
-use Rattle.judging.proofs.Columns.{narrow}
+use Rattle.table.proofs.Columns.{narrow}
 use Rattle.slicing.proofs.Putting.{put-nothing, put-slices}
 use Rattle.slicing.proofs.Blocks.{run-within, run-put}
 use Rattle.slicing.proofs.write_block_column.Statement.{statement}

@@ -6,7 +6,7 @@ use mathlib.Core.Path.{_≡_}
 use borrow.Author.Needs.{needs}
 use lib.ListN.{length}
 use Rattle.register.specs.Layout.{slicesBefore}
-use Rattle.judging.specs.Table.{widthOf}
+use Rattle.table.specs.Table.{widthOf}
 use Rattle.slicing.specs.Body.{bodyOf}
 use Rattle.slicing.specs.Putting.{Put}
 use Rattle.slicing.proofs.Lengths.{length-bodyOf}

@@ -10,9 +10,9 @@ use lib.ListN.{getD, replicate, length-replicate}
 use borrow.Author.Tests.{lt-ltb, le-ltb}
 use Rattle.limits.specs.Limits.{longestSegment}
 use Rattle.basis.proofs.Runs.{within-or-past}
-use Rattle.standings.specs.Sweeps.{Swept}
-use Rattle.standings.proofs.Sweeps.{swept-nothing}
-use Rattle.standings.proofs.FrontSweeps.{swept-next, swept-from-front, all-zero}
+use Rattle.basis.specs.Sweeps.{Swept}
+use Rattle.basis.proofs.Sweeps.{swept-nothing}
+use Rattle.basis.proofs.FrontSweeps.{swept-next, swept-from-front, all-zero}
 use Rattle.standings.proofs.in_rows.Statement.{statement}
 use Rattle.standings.proofs.in_rows.Tie as tie
 

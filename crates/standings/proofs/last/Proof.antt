@@ -2,7 +2,7 @@
 -- Assumes nothing.
 use native.Mathlib.Nat.{zero-add}
 use borrow.Author.Needs.{needs}
-use Rattle.standings.proofs.FrontSweeps.{swept-alike, swept-all-kept}
+use Rattle.basis.proofs.FrontSweeps.{swept-alike, swept-all-kept}
 use Rattle.standings.proofs.last.Statement.{statement}
 use Rattle.standings.proofs.last.Tie as tie
 

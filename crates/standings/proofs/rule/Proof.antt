@@ -5,7 +5,7 @@ use native.Mathlib.Nat.{zero-add}
 use borrow.Author.Needs.{needs}
 use lib.Dec.{eqb}
 use lib.ListN.{getD}
-use Rattle.standings.proofs.FrontSweeps.{swept-from-front, swept-alike, swept-twice, swept-all-kept}
+use Rattle.basis.proofs.FrontSweeps.{swept-from-front, swept-alike, swept-twice, swept-all-kept}
 use Rattle.standings.proofs.TakenOut.{left-by-either}
 use Rattle.standings.proofs.rule.Statement.{statement}
 use Rattle.standings.proofs.rule.Tie as tie

@@ -7,8 +7,8 @@ use mathlib.Core.List.{List}
 use borrow.Author.Needs.{needs}
 use lib.ListN.{length, getD}
 use Rattle.standings.specs.Standings.{steppedRow}
-use Rattle.standings.specs.Sweeps.{Swept}
-use Rattle.standings.proofs.Sweeps.{swept-nothing, swept-one-more, swept-ahead}
+use Rattle.basis.specs.Sweeps.{Swept}
+use Rattle.basis.proofs.Sweeps.{swept-nothing, swept-one-more, swept-ahead}
 use Rattle.standings.proofs.step.Statement.{statement}
 use Rattle.standings.proofs.step.Tie as tie
 

@@ -6,10 +6,10 @@ use mathlib.Core.Path.{_≡_, _∙_}
 use mathlib.Core.List.{List}
 use borrow.Author.Needs.{needs}
 use lib.ListN.{getD}
-use Rattle.standings.specs.Sweeps.{Swept}
+use Rattle.basis.specs.Sweeps.{Swept}
 use Rattle.standings.specs.TakenOut.{takenOutBy}
-use Rattle.standings.proofs.Sweeps.{swept-nothing}
-use Rattle.standings.proofs.FrontSweeps.{swept-next}
+use Rattle.basis.proofs.Sweeps.{swept-nothing}
+use Rattle.basis.proofs.FrontSweeps.{swept-next}
 use Rattle.standings.proofs.take_out.Statement.{statement}
 use Rattle.standings.proofs.take_out.Tie as tie
 

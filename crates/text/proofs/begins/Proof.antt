@@ -8,7 +8,7 @@ use borrow.Author.Tests.{ne-eqb}
 use Rattle.basis.proofs.Truth.{holds, fails}
 use Rattle.basis.proofs.Tables.{everyEntry, entry-passes}
 use Rattle.text.specs.Lines.{segmentWord}
-use Rattle.text.proofs.Words.{byte-of-word}
+use Rattle.decimals.proofs.Words.{byte-of-word}
 use borrow.Author.Needs.{needs}
 use Rattle.text.proofs.begins.Statement.{statement}
 use Rattle.text.proofs.begins.Tie as tie

@@ -5,8 +5,8 @@ use mathlib.Core.Path.{_≡_, ap, _∙_}
 use borrow.Author.Needs.{needs}
 use lib.ListN.{length}
 use Rattle.register.specs.Layout.{slicesBefore}
-use Rattle.judging.specs.Table.{widthOf}
-use Rattle.judging.proofs.Columns.{Counted, none-counted, one-more-counted}
+use Rattle.table.specs.Table.{widthOf}
+use Rattle.table.proofs.Columns.{Counted, none-counted, one-more-counted}
 use Rattle.writer.proofs.slices_in.Statement.{statement}
 use Rattle.writer.proofs.slices_in.Tie as tie
 

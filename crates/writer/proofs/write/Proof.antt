@@ -12,7 +12,7 @@ use Rattle.register.specs.Layout.{bytesBefore}
 use Rattle.register.proofs.Directory.{few-bytes}
 use Rattle.writer.specs.declared.Written.the-variants.{Bytes}
 use Rattle.writer.specs.Answers.{refusedWith}
-use Rattle.judging.specs.Table.{widthOf, FitWidths, FitCodes, firstUnfit, firstTooLarge}
+use Rattle.table.specs.Table.{widthOf, FitWidths, FitCodes, firstUnfit, firstTooLarge}
 use Rattle.writer.specs.Layout.{fileLength}
 use Rattle.writer.proofs.Fit.{widths-fit, codes-fit}
 use Rattle.writer.proofs.Writing as writing

@@ -10,9 +10,9 @@ use Rattle.basis.specs.Lists.{below}
 use Rattle.basis.proofs.Buffers.{Filled, filled-nothing, filled-list}
 use Rattle.register.specs.Layout.{slicesBefore}
 use Rattle.register.proofs.Directory.{few-bytes}
-use Rattle.judging.specs.Table.{widthOf}
+use Rattle.table.specs.Table.{widthOf}
 use Rattle.writer.specs.Layout.{directoryOf}
-use Rattle.judging.proofs.Columns.{Counted, none-counted, one-more-counted}
+use Rattle.table.proofs.Columns.{Counted, none-counted, one-more-counted}
 use Rattle.writer.proofs.Lengths.{entryOf, length-entryWith, length-entries}
 use Rattle.writer.proofs.write_directory.Statement.{statement}
 use Rattle.writer.proofs.write_directory.Tie as tie

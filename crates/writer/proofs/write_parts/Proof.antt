@@ -9,7 +9,7 @@ use Rattle.limits.specs.Limits.{entryBytes, trailerBytes}
 use Rattle.basis.specs.Buffers.{laid}
 use Rattle.basis.proofs.Buffers.{filled-at-once, filled-more}
 use Rattle.register.specs.Layout.{bytesBefore}
-use Rattle.judging.specs.Table.{widthOf}
+use Rattle.table.specs.Table.{widthOf}
 use Rattle.slicing.specs.Body.{bodyOf}
 use Rattle.writer.specs.Layout.{directoryOf, trailerWith, trailerOf, fileOf}
 use Rattle.slicing.proofs.Lengths.{length-bodyOf}

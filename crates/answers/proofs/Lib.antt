@@ -1,0 +1,2 @@
+-- From a table to the answer.
+pub mod Replies

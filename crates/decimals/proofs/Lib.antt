@@ -1,0 +1,3 @@
+-- The laws of decimals.
+pub mod Decimals
+pub mod Words

@@ -1,0 +1,2 @@
+-- Decimals without leading zeros, and the bytes between them.
+pub mod Decimals
