@@ -6,6 +6,9 @@
 --   nor          what fails on both sides fails
 --   both         a passed "and" has passed on both sides
 --   hit, missed  what is chosen by a test that holds, and by one that does not
+--   at-most-one  of 1 and 0, whichever is chosen first
+use Prim.Native.Nat.{_≤_}
+use native.Mathlib.Omega.{arith}
 use mathlib.Core.Path.{_≡_, refl}
 use mathlib.Core.Logic.{_⊎_, inl, inr}
 use mathlib.Core.Bool.{Bool, true, false, not, _&&_, _||_, cond, true≢false}
@@ -45,3 +48,7 @@ hit b x y e = rw e
 
 pub missed : {A : Type 0} (b : Bool) (x y : A) → b ≡ false → cond b x y ≡ y
 missed b x y e = rw e
+
+pub at-most-one : (b : Bool) → (cond b 1 0 ≤ 1) × (cond b 0 1 ≤ 1)
+at-most-one true = (omega arith, omega arith)
+at-most-one false = (omega arith, omega arith)

@@ -1,4 +1,5 @@
 -- What `compare` answers on two numbers, from their order and back. Assumes nothing.
+--     each-ordering                               what is so of less, of equal and of greater is so of every answer
 --     compare-less, compare-same, compare-more    the answer from the fact
 --     less-of, same-of, more-of                   the fact from the answer
 --     compare-alike                               two pairs in the same order have the same answer
@@ -12,6 +13,12 @@ use native.Mathlib.Nat.{mul-le-mul-right, mul-lt-mul-of-pos-right}
 use lib.Dec.{isLe, isEq}
 use borrow.Author.Tests.{le-leb, lt-leb, eq-eqb, ne-eqb, leb-true, leb-false, eqb-true, eqb-false}
 use Rattle.codes.specs.Order.{andThen}
+
+-- what is so of each answer
+pub each-ordering : (P : Ordering → Type 0) → P Ordering·lt → P Ordering·eq → P Ordering·gt → (o : Ordering) → P o
+each-ordering P of-less of-equal of-greater Ordering·lt = of-less
+each-ordering P of-less of-equal of-greater Ordering·eq = of-equal
+each-ordering P of-less of-equal of-greater Ordering·gt = of-greater
 
 -- the answer that passes the test `at most` and fails `equal`
 is-less : (o : Ordering) → isLe o ≡ true → isEq o ≡ false → o ≡ Ordering·lt

@@ -5,14 +5,15 @@
 --   sums-small           and does so when a segment's is added
 --   matches-at-most      the matches so far are at most the rows done
 --   room-for-segment     the segment's bits have room behind those before
-use Prim.Native.Nat.{ℕ, suc, _+_, _-_, _*_, _/_, _^_, _≤_, _<_, min}
+use Prim.Native.Nat.{ℕ, suc, _+_, _-_, _*_, _/_, _≤_, _<_, min}
 use native.Mathlib.Omega.{arith}
 use mathlib.Core.Path.{_≡_}
 use mathlib.Core.Logic.{_⊎_, inl, inr}
 use mathlib.Core.List.{List}
-use mathlib.Core.Bool.{Bool, true, false, cond}
+use mathlib.Core.Bool.{cond}
 use lib.ListN.{length, getD}
 use Rattle.basis.specs.Lists.{sum, below}
+use Rattle.basis.proofs.Truth.{at-most-one}
 use Rattle.basis.proofs.Lists.{sum-at-most}
 use Rattle.basis.proofs.Runs.{within-or-past}
 use Rattle.register.specs.File.{widthIn}
@@ -26,18 +27,13 @@ use Rattle.scan.proofs.Sizes.{Eighths}
 use Rattle.scan.proofs.SegmentSums.{foundIn, countedIn, few-counted}
 use Rattle.scan.proofs.RowsSoFar.{SoFar, on-a-byte, next-counted}
 
--- 1 or 0 is at most 1
-at-most-one : (is : Bool) → cond is 1 0 ≤ 1
-at-most-one true = omega arith
-at-most-one false = omega arith
-
 pub found-rows : (file : List ℕ) (tests : List Test) (count first n : ℕ) (segment : Segment) → n ≤ longestSegment →
     SegmentScanned file tests count first n segment → FoundRows (segment .found) n
 found-rows file tests count first n segment few scanned =
     record { few = few; all = scanned .whole .0; each = λ k. go k (within-or-past k n); rest = scanned .rest }
   where
     go : (k : ℕ) → (k < n) ⊎ (n ≤ k) → getD (segment .found) k 0 ≤ 1
-    go k (inl h) = rw (scanned .rows-found k h) (at-most-one (foundIn file tests count (first + k)))
+    go k (inl h) = rw (scanned .rows-found k h) (at-most-one (foundIn file tests count (first + k)) .0)
     go k (inr h) = rw (scanned .rest k h) (omega arith)
 
 pub ones-at-most : (places : List ℕ) (n : ℕ) → FoundRows places n → sum (λ k. getD places k 0) (below n) ≤ n
@@ -48,7 +44,7 @@ module _ (file : List ℕ) (tests : List Test) (count size rows : ℕ) (sized : 
   pub matches-at-most : matches ≤ first
   matches-at-most =
       let found = foundIn file tests count in
-      omega (arith, far .matched, sum-at-most (λ row. cond (found row) 1 0) 1 first (λ row h. at-most-one (found row)))
+      omega (arith, far .matched, sum-at-most (λ row. cond (found row) 1 0) 1 first (λ row h. at-most-one (found row) .0))
 
   module _ (few-rows : rows ≤ mostRows) (narrow : (t : ℕ) → t < count → widthIn file (testAt tests t .column) ≤ widest) where
     -- what a test that is there counts, over so many segments

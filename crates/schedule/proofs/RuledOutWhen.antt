@@ -12,6 +12,7 @@ use lib.Dec.{T}
 use Rattle.basis.specs.Lists.{all}
 use Rattle.basis.proofs.Members.{all-gives}
 use Rattle.codes.specs.Order.{andThen}
+use Rattle.codes.proofs.Compare.{each-ordering}
 use Rattle.query.specs.declared.Comparison.{Comparison}
 use Rattle.query.specs.declared.Comparison.the-variants.{Less, AtMost, More, AtLeast, Equal, Differs}
 use Rattle.schedule.specs.Comparisons.{equal, ruledOutWhen, trueWhen}
@@ -19,21 +20,15 @@ use Rattle.schedule.specs.Comparisons.{equal, ruledOutWhen, trueWhen}
 abbrev pub standings : List Ordering
 standings = Ordering·lt ∷ Ordering·eq ∷ Ordering·gt ∷ []
 
--- what is so of each of them
-each-standing : (P : Ordering → Type 0) → P Ordering·lt → P Ordering·eq → P Ordering·gt → (s : Ordering) → P s
-each-standing P of-less of-equal of-greater Ordering·lt = of-less
-each-standing P of-less of-equal of-greater Ordering·eq = of-equal
-each-standing P of-less of-equal of-greater Ordering·gt = of-greater
-
 -- A test rules a row out exactly when it would be false of it whatever bytes follow.
 pub ruled-out-when-hopeless : (c : Comparison) (s : Ordering) →
     ruledOutWhen c s ≡ all (λ rest. not (trueWhen c (andThen s rest))) standings
-ruled-out-when-hopeless (Less l) = each-standing _ refl refl refl
-ruled-out-when-hopeless (AtMost l) = each-standing _ refl refl refl
-ruled-out-when-hopeless (More l) = each-standing _ refl refl refl
-ruled-out-when-hopeless (AtLeast l) = each-standing _ refl refl refl
-ruled-out-when-hopeless (Equal l) = each-standing _ refl refl refl
-ruled-out-when-hopeless (Differs l) = each-standing _ refl refl refl
+ruled-out-when-hopeless (Less l) = each-ordering _ refl refl refl
+ruled-out-when-hopeless (AtMost l) = each-ordering _ refl refl refl
+ruled-out-when-hopeless (More l) = each-ordering _ refl refl refl
+ruled-out-when-hopeless (AtLeast l) = each-ordering _ refl refl refl
+ruled-out-when-hopeless (Equal l) = each-ordering _ refl refl refl
+ruled-out-when-hopeless (Differs l) = each-ordering _ refl refl refl
 
 pub none-out-at-first : (c : Comparison) → ruledOutWhen c Ordering·eq ≡ false
 none-out-at-first (Less l) = refl
@@ -49,7 +44,7 @@ settled-stands Ordering·eq rest differs = absurd differs
 settled-stands Ordering·gt rest differs = refl
 
 pub out-differs : (c : Comparison) (s : Ordering) → T (ruledOutWhen c s) → T (not (equal s))
-out-differs c = each-standing _ (λ out. tt) (λ out. rw none-out-at-first at out) (λ out. tt)
+out-differs c = each-ordering _ (λ out. tt) (λ out. rw none-out-at-first at out) (λ out. tt)
 
 pub out-is-false : (c : Comparison) (s : Ordering) → T (ruledOutWhen c s) → T (not (trueWhen c s))
 out-is-false c s out =

@@ -13,7 +13,7 @@ use lib.Dec.{T, eqb, ltb, lt→ltb, not-T}
 use lib.ListN.{getD}
 use Rattle.limits.specs.Limits.{longestSegment}
 use Rattle.basis.specs.Lists.{any, sum, below}
-use Rattle.basis.proofs.Truth.{either, holds, fails, both}
+use Rattle.basis.proofs.Truth.{either, holds, fails, both, at-most-one}
 use Rattle.basis.proofs.Passing.{both-pass}
 use Rattle.basis.proofs.Members.{any-gives, any-from, sum-gives, sum-term}
 use Rattle.basis.proofs.Runs.{in-run, run-holds, in-below, below-holds}
@@ -35,11 +35,6 @@ at-most-in : (is : Bool) (in-still : ℕ) → cond is in-still 0 ≤ in-still
 at-most-in true in-still = omega arith
 at-most-in false in-still = omega arith
 
--- 0 or 1
-at-most-one : (out : Bool) → cond out 0 1 ≤ 1
-at-most-one true = omega arith
-at-most-one false = omega arith
-
 -- a row that is out keeps nothing open
 out-is-not-open : (is was : Bool) → _≡_ {A = ℕ} (cond is 0 0) (cond (was && not true) 1 0)
 out-is-not-open true was = rw (and-false was)
@@ -54,7 +49,7 @@ module _ {g : Work} {j t : ℕ} {standings in-rows cs : List ℕ} {closed : Bool
     (so-far : Progress g j t standings in-rows cs closed) (next : t < g .count) where
   -- never more than one a row
   pub open-at-most-one : (s k : ℕ) → k < g .n → openRow s (getD in-rows k 0) ≤ 1
-  open-at-most-one s k h = omega (arith, at-most-in (eqb s 0) (getD in-rows k 0), so-far .in-still k h, at-most-one (isOut g j k))
+  open-at-most-one s k h = omega (arith, at-most-in (eqb s 0) (getD in-rows k 0), so-far .in-still k h, at-most-one (isOut g j k) .1)
 
   -- row k of the segment keeps test t open
   abbrev keeps : ℕ → Bool
