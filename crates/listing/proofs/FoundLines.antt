@@ -25,8 +25,8 @@ use Rattle.asking.specs.AtFile.{testsIn, bytesIn}
 use Rattle.scan.specs.Answers.{leftIn}
 use Rattle.scan.proofs.LeftBits.{bit-left}
 use Rattle.scan.proofs.Accepting.{Accepted, fits}
-use Rattle.rows.specs.RowList.{marked, markedBelow}
-use Rattle.rows.proofs.ScannedRows.{one-or-none}
+use Rattle.bits.specs.Marked.{marked, markedBelow}
+use Rattle.bits.proofs.FoundBits.{one-or-none}
 use Rattle.listing.specs.Listing.{rowsFound}
 use Rattle.listing.specs.Steps.{ColumnsBelow}
 

@@ -11,7 +11,7 @@ use Rattle.basis.specs.Lists.{those, below}
 use Rattle.basis.proofs.Lists.{below-one-more, joined-one-more}
 use Rattle.basis.proofs.Those.{those-joined}
 use Rattle.query.specs.declared.Test.{Test}
-use Rattle.rows.specs.RowList.{marked, markedBelow}
+use Rattle.bits.specs.Marked.{marked, markedBelow}
 use Rattle.lines.specs.Lines.{rowLine}
 use Rattle.listing.specs.Listing.{testLineAt, testLines, rowLines}
 

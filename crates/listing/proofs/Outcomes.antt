@@ -23,7 +23,7 @@ use Rattle.bits.specs.Bits.{bytesFor}
 use Rattle.scan.specs.Refusals.{ownLines}
 use Rattle.scan.specs.Answers.{leftIn}
 use Rattle.scan.proofs.Accepting.{Accepted}
-use Rattle.rows.specs.RowList.{markedBelow}
+use Rattle.bits.specs.Marked.{markedBelow}
 use Rattle.pieces.specs.Pieces.{Wrote, PieceWritten}
 use Rattle.lines.specs.Lines.{headLine, refusedLine}
 use Rattle.listing.specs.Listing.{scanFor, testLines, rowLines, answerLines, listingOf}

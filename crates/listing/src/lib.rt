@@ -18,7 +18,7 @@ ghost use lib.ListN.{length};
 ghost use Rattle.limits.specs.Limits.{mostTests, longestLine};
 ghost use Rattle.register.specs.declared.Opened.the-variants.{Register};
 ghost use Rattle.register.specs.Opening.{openedOf};
-ghost use Rattle.rows.specs.RowList.{marked, markedBelow};
+ghost use Rattle.bits.specs.Marked.{marked, markedBelow};
 ghost use Rattle.basis.specs.Lists.{those};
 ghost use mathlib.Core.List.{[], _∷_};
 ghost use Rattle.pieces.specs.Pieces.{Wrote};
@@ -163,7 +163,7 @@ fn put_row(
     requires { ⌜ (at < 2 ^ 60) × (openedOf (now file) ≡ Register shape) × (row < shape .rows) ⌝ }
     ensures { λ r. ⌜ Wrote from at (rowLines (now (file .entry)) (those (marked (now (bits .entry))) (row ∷ []))) (now (out .entry)) (now (out .exit)) r × (r ≤ at + longestLine) ⌝ }
 {
-    if rows::is_marked(bits, row) {
+    if bits::is_marked(bits, row) {
         return row_line(out, from, at, file, shape, row);
     }
     at

@@ -10,7 +10,7 @@ use Rattle.basis.proofs.Members.{_∈_}
 use Rattle.basis.proofs.Runs.{in-below, below-holds}
 use Rattle.basis.proofs.Those.{in-those, those-hold}
 use Rattle.bits.specs.Bits.{bitIn}
-use Rattle.rows.specs.RowList.{marked, markedBelow}
+use Rattle.bits.specs.Marked.{marked, markedBelow}
 
 module _ (rows : ℕ) (bits : List ℕ) (row : ℕ) where
   pub listed-is-marked : row ∈ markedBelow rows bits → (row < rows) × (bitIn bits row ≡ 1)

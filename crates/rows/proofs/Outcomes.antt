@@ -2,27 +2,22 @@
 --   Answered                          a reply and an output that are the definitions'
 --   too-many, unfit-bits, too-short    refusals 3, 16, 10
 --   none-answers, listed              none of them
---   fit-length                        fit bits are as many bytes as the rows need
---   all-marked                        and the rows that are marked in all of them are those below the rows
-use Prim.Native.Nat.{ℕ, _*_, _≤_, _<_}
-use mathlib.Core.Path.{_≡_, refl, ap, _∙_}
+use Prim.Native.Nat.{ℕ, _≤_, _<_}
+use mathlib.Core.Path.{_≡_, refl}
 use mathlib.Core.List.{List}
-use mathlib.Core.Bool.{true, false, not}
+use mathlib.Core.Bool.{true, false}
 use mathlib.Core.Option.{none, some}
-use borrow.Author.Tests.{lt-ltb, le-ltb, eqb-true, not-false}
-use lib.Dec.{eqb}
+use borrow.Author.Tests.{lt-ltb, le-ltb}
 use lib.ListN.{length}
 use Rattle.basis.specs.Refusals.{Line, refuse, refuseFor, firstLine}
 use Rattle.basis.specs.Buffers.{laid}
-use Rattle.basis.proofs.Truth.{neither}
 use Rattle.limits.specs.Limits.{mostRows}
 use Rattle.answers.specs.Answers.{refusal}
-use Rattle.bits.specs.Bits.{bytesFor}
 use Rattle.rows.specs.declared.Listed.{Listed}
 use Rattle.rows.specs.declared.Listed.the-variants.{Rows, Refused}
 use Rattle.rows.specs.Answers.{refusedWith, shownOf}
-use Rattle.rows.specs.RowList.{markedBelow, markedPast, unfitBits, listLines, listedOf, shownFor, leftIn}
-use Rattle.rows.proofs.ByteByByte.{none-past-last}
+use Rattle.bits.specs.Marked.{markedBelow, unfitBits}
+use Rattle.rows.specs.RowList.{listLines, listedOf, shownFor, leftIn}
 
 -- fit bits and room enough: no line answers
 pub none-answers : (rows : ℕ) (bits : List ℕ) (room : ℕ) → rows ≤ mostRows → unfitBits rows bits ≡ false →
@@ -66,15 +61,3 @@ module _ (rows : ℕ) (bits out : List ℕ) where
       pub listed : length (markedBelow rows bits) ≤ length out → {r : Listed} {left : List ℕ} →
           r ≡ Rows (length (markedBelow rows bits)) → left ≡ laid out 0 (markedBelow rows bits) → Answered r left
       listed h = accepted-by (none-answers rows bits (length out) few fit h)
-
-module _ (rows : ℕ) (bits : List ℕ) (fit : unfitBits rows bits ≡ false) where
-  -- neither cause of 16
-  both-fail : (not (eqb (length bits) (bytesFor rows)) ≡ false) × (markedPast rows bits ≡ false)
-  unfolding unfitBits
-  both-fail = neither (not (eqb (length bits) (bytesFor rows))) (markedPast rows bits) fit
-
-  pub fit-length : length bits ≡ bytesFor rows
-  fit-length = eqb-true (length bits) (bytesFor rows) (not-false (eqb (length bits) (bytesFor rows)) (both-fail .0))
-
-  pub all-marked : markedBelow (8 * length bits) bits ≡ markedBelow rows bits
-  all-marked = ap (λ (n : ℕ). markedBelow (8 * n) bits) fit-length ∙ none-past-last rows bits (both-fail .1)

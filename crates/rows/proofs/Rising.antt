@@ -9,7 +9,7 @@ use Rattle.basis.specs.Lists.{those, run}
 use Rattle.basis.proofs.Lists.{at-is-member}
 use Rattle.basis.proofs.Runs.{in-run}
 use Rattle.basis.proofs.Those.{in-those}
-use Rattle.rows.specs.RowList.{marked, markedBelow}
+use Rattle.bits.specs.Marked.{marked, markedBelow}
 
 -- each element is less than every later one
 abbrev pub Rises : List ℕ → Type 0

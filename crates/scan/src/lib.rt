@@ -62,7 +62,7 @@ pub fn scan(file: &[u8], size: usize, query: Query, result: &mut [u8]) -> Scanne
     if let Verdict::Unfit(number, place) = verdict {
         return refused_with(number, place, 0);
     }
-    let need = (shape.rows + 7) / 8;
+    let need = bits::bytes_for(shape.rows);
     if result.len() < need {
         return refused_with(10, 0, need);
     }

@@ -17,6 +17,7 @@ use Rattle.writer.specs.Writing as writes
 use Rattle.schedule.specs.Segments.{segmentCount, segment, segments}
 use Rattle.schedule.specs.Schedule.{standing, ruledOut, keepsOpen, counts, countIn, count, total, found, matches}
 use Rattle.bits.specs.Bits.{bytesFor, bitsAt, bitsOf, bitIn}
+use Rattle.bits.specs.Marked.{markedBelow, markedPast, unfitBits}
 use Rattle.scan.specs.Refusals.{unfitSize, testLines, ownLines}
 use Rattle.scan.specs.Answers as scans
 use Rattle.rows.specs.RowList as lists
@@ -31,6 +32,6 @@ unfolding table twoRows tenRows tenCodes oneByte noRows joined big padOf slicesO
     writes.shownFor writes.leftIn writes.writeLines fileLength fileOf bodyOf columnOf sliceOf directoryOf entryWith trailerOf trailerWith
     flatten toLittle byteOf bytesOf storedOf toBig tooLarge scanReply scans.scannedOf scans.accepted scans.leftIn scans.foundBits
     bitsOf bitsAt bytesFor ownLines testLines unfitSize byteAt standing ruledOut keepsOpen counts countIn count total found matches segmentCount
-    segment segments lastSlice clearedByte lists.shownFor lists.leftIn lists.listLines lists.unfitBits lists.markedPast
-    lists.markedBelow bitIn
+    segment segments lastSlice clearedByte lists.shownFor lists.leftIn lists.listLines unfitBits markedPast
+    markedBelow bitIn
 settled = refl

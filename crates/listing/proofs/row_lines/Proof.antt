@@ -4,7 +4,7 @@ use native.Mathlib.Omega.{arith}
 use mathlib.Core.Path.{_≡_}
 use mathlib.Core.List.{flatten}
 use Rattle.limits.specs.Limits.{longestLine}
-use Rattle.rows.specs.RowList.{markedBelow}
+use Rattle.bits.specs.Marked.{markedBelow}
 use Rattle.pieces.specs.Pieces.{Wrote}
 use Rattle.listing.specs.Listing.{rowLines}
 use Rattle.pieces.proofs.Writing.{same-room, wrote-nothing, written-then}

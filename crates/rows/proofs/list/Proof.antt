@@ -1,7 +1,7 @@
 -- `rows::list` meets its contract: each test is a line of the table, in its order. Assumes nothing.
 use Prim.Native.Nat.{ℕ, _≤_}
 use native.Mathlib.Omega.{arith}
-use mathlib.Core.Path.{_≡_, refl, sym, ap, _∙_}
+use mathlib.Core.Path.{_≡_, sym, ap, _∙_}
 use mathlib.Core.List.{List}
 use mathlib.Core.Bool.{false}
 use lib.ListN.{length}
@@ -10,10 +10,9 @@ use Rattle.limits.specs.Limits.{mostRows}
 use Rattle.bits.specs.Bits.{bytesFor}
 use Rattle.rows.specs.declared.Listed.the-variants.{Rows}
 use Rattle.rows.specs.Answers.{refusedWith}
-use Rattle.rows.specs.Places.{placesIn}
-use Rattle.rows.specs.RowList.{unfitBits}
-use Rattle.rows.proofs.Constants.{rightPlace, holds-places}
-use Rattle.rows.proofs.Outcomes.{too-many, unfit-bits, too-short, listed, fit-length, all-marked}
+use Rattle.bits.specs.Marked.{unfitBits}
+use Rattle.bits.proofs.FitBits.{fit-length, all-marked}
+use Rattle.rows.proofs.Outcomes.{too-many, unfit-bits, too-short, listed}
 use Rattle.rows.proofs.list.Statement.{statement}
 use Rattle.rows.proofs.list.Tie as tie
 
@@ -65,10 +64,9 @@ returns-3 c =
     too-short _ (bitsOf past) _ (few past) (fit past) (rw many at (c .before .if3 .taken)) (c .refused3 .ensures ∙ ap (refusedWith 10) many)
 
 write-rows-requires : tie.Need-write-rows-requires
-unfolding rightPlace placesIn
 write-rows-requires c κs =
-    let counted = c .before .before .before in
-    ((holds-places _ refl tt, short (counted .before)), (counted .count-rows .ensures, c .before .before .if3 .left))
+    let counted = c .before .before in
+    (short (counted .before), (counted .count-rows .ensures, c .before .if3 .left))
 
 same-length : tie.Need-same-length
 same-length c = search needs
@@ -76,11 +74,11 @@ same-length c = search needs
 returns-4 : tie.Need-returns-4
 returns-4 c =
     let wrote = c .before .before in
-    let counted = wrote .before .before .before .before in
+    let counted = wrote .before .before .before in
     let past = counted .before in
     let all = all-marked _ (bitsOf past) (fit past) in
     let many = counted .count-rows .ensures ∙ ap length all in
-    listed _ (bitsOf past) _ (few past) (fit past) (rw many at (wrote .before .before .before .if3 .left)) (ap Rows many)
+    listed _ (bitsOf past) _ (few past) (fit past) (rw many at (wrote .before .before .if3 .left)) (ap Rows many)
     (wrote .write-rows .ensures ∙ rw all)
 
 pub list-spec : {M : Type 1} → statement M

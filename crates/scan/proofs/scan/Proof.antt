@@ -16,7 +16,6 @@ use Rattle.query.specs.Tests.{testsOf}
 use Rattle.scan.specs.declared.Verdict.the-variants.{Fit}
 use Rattle.scan.specs.Steps.{verdictOf}
 use Rattle.scan.specs.Refusals.{testLines, unfitSize}
-use Rattle.bits.specs.Bits.{bytesFor}
 use Rattle.scan.specs.Answers.{refused}
 use Rattle.scan.proofs.Outcomes as outcomes
 use Rattle.scan.proofs.scan.Statement.{statement}
@@ -45,13 +44,13 @@ right c = sym (c .before .unfit-size .ensures) ∙ c .if1 .left
 abbrev knownOf : tie.Else2 → tie.After-known-told
 knownOf c = c .before .before .before
 
-abbrev judgedOf : tie.After-struct-known → tie.After-judge
-judgedOf c = c .before .before .before
+abbrev judgedOf : tie.After-enum-told2 → tie.After-judge
+judgedOf c = c .before .before
 
-verdict : (c : tie.After-struct-known) → judgedOf c .judge .result ≡ Fit
-verdict c = c .before .enum-told2 .given .1
+verdict : (c : tie.After-enum-told2) → judgedOf c .judge .result ≡ Fit
+verdict c = c .enum-told2 .given .1
 
-fit : (c : tie.After-struct-known) →
+fit : (c : tie.After-enum-told2) →
     let a = startOf (knownOf (judgedOf c .before .before)) .args in
     verdictOf (firstLine (testLines (a .file .now) 0 (testsOf (a .query)))) ≡ Fit
 fit c = sym (judgedOf c .judge .ensures .0) ∙ verdict c
@@ -119,42 +118,42 @@ returns-4 c =
 enum-told-2 : tie.Need-enum-told-2
 enum-told-2 c = search needs
 
-add-need : tie.Need-add-need
-add-need c =
-    let past = knownOf (judgedOf c .before .before) in
-    omega (arith, few-rows past)
+bytes-for-requires : tie.Need-bytes-for-requires
+bytes-for-requires c κs = few-rows (knownOf (judgedOf c .before .before))
 
 refused-with-requires-4 : tie.Need-refused-with-requires-4
 refused-with-requires-4 c κs = search needs
 
 returns-5 : tie.Need-returns-5
-unfolding bytesFor
 returns-5 c =
-    let told = c .before .before in
+    let sized = c .before .before in
+    let told = sized .before in
     let few = judgedOf told .before .before in
     let past = knownOf few in
-    outcomes.too-short _ _ _ _ (shapeAt past) (opened past) (right (few .before)) (few .if2 .left) (fit told) (c .before .if3 .taken)
-    (c .refused-with4 .ensures)
+    outcomes.too-short _ _ _ _ (shapeAt past) (opened past) (right (few .before)) (few .if2 .left) (fit told)
+    (rw (sized .bytes-for .ensures) at (c .before .if3 .taken)) (rw (sized .bytes-for .ensures) at (c .refused-with4 .ensures))
 
 scan-rows-requires : tie.Need-scan-rows-requires
-unfolding bytesFor
 scan-rows-requires c κs =
-    let told = c .before .before in
-    let judged = judgedOf told in
-    (judged .judge .ensures .1 (verdict told), (right (judged .before .before .before), c .before .if3 .left))
+    let sized = c .before .before in
+    let told = sized .before in
+    let judged = judgedOf told in (
+      judged .judge .ensures .1 (verdict told),
+      (right (judged .before .before .before), rw (sized .bytes-for .ensures) at (c .before .if3 .left)),
+    )
 
 same-length : tie.Need-same-length
 same-length c = search needs
 
 returns-6 : tie.Need-returns-6
-unfolding bytesFor
 returns-6 c =
     let scanned = c .before .before in
-    let told = scanned .before .before .before in
+    let sized = scanned .before .before .before in
+    let told = sized .before in
     let few = judgedOf told .before .before in
     let past = knownOf few in
     outcomes.scanned _ _ _ _ (shapeAt past) (opened past) (right (few .before)) (few .if2 .left) (fit told)
-    (scanned .before .before .if3 .left)
+    (rw (sized .bytes-for .ensures) at (scanned .before .before .if3 .left))
     (scanned .scan-rows .ensures .0) (scanned .scan-rows .ensures .1)
 
 pub scan-spec : {M : Type 1} → statement M
@@ -177,7 +176,7 @@ scan-spec =
     refused-with-requires-3
     returns-4
     enum-told-2
-    add-need
+    bytes-for-requires
     refused-with-requires-4
     returns-5
     scan-rows-requires

@@ -1,0 +1,2 @@
+-- What a scan found is listed.
+pub mod ScannedRows

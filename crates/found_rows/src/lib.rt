@@ -1,0 +1,1 @@
+// A theory: its laws are in proofs/. There is no code.

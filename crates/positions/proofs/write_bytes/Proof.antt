@@ -1,0 +1,89 @@
+-- `positions::write_bytes` meets its contract: each turn writes the rows of one byte more. Assumes nothing.
+use Prim.Native.Nat.{_-_, _≤_}
+use native.Mathlib.Omega.{arith}
+use borrow.Author.Needs.{needs}
+use lib.ListN.{length}
+use Rattle.bits.proofs.ByteByByte.{next-fits}
+use Rattle.positions.proofs.Written.{Written, none-written, byte-written, all-written}
+use Rattle.positions.proofs.write_bytes.Statement.{statement}
+use Rattle.positions.proofs.write_bytes.Tie as tie
+
+abbrev Inv-loop : tie.InvT-loop
+Inv-loop positions bits all out₀ at₀ i₀ out at i = (i ≤ length bits) × Written bits all out₀ out at i
+
+abbrev μ-loop : tie.MeasureT-loop
+μ-loop positions bits all out₀ at₀ i₀ out at i = length bits - i
+
+loop-holds : tie.Need-loop-holds Inv-loop μ-loop
+loop-holds c = (omega arith, none-written _ _ _)
+
+shared-slice-read-byte : tie.Need-shared-slice-read-byte Inv-loop μ-loop
+shared-slice-read-byte c = omega arith
+
+ones-of-requires : tie.Need-ones-of-requires Inv-loop μ-loop
+ones-of-requires c κs = search needs
+
+mul-put-byte : tie.Need-mul-put-byte Inv-loop μ-loop
+mul-put-byte c = omega arith
+
+cast-put-byte : tie.Need-cast-put-byte Inv-loop μ-loop
+cast-put-byte c = omega arith
+
+put-byte-requires : tie.Need-put-byte-requires Inv-loop μ-loop
+put-byte-requires c κs =
+    let start = c .before .before .before .before .before .before .before in
+    let turn = c .before .before .before .before .loop in
+    let fits = next-fits (start .args .bits .now) (start .args .all) (turn .i) (omega arith) (omega (arith, start .pre .1 .0)) in
+    let ones = c .before .ones-of .ensures in (
+      (start .pre .0 .0, ones),
+      (
+        omega arith,
+        omega (arith, fits, ones, turn .inv .1 .counted),
+        omega (arith, start .pre .1 .1, turn .inv .1 .same-length),
+      ),
+    )
+
+add-at : tie.Need-add-at Inv-loop μ-loop
+add-at c =
+    let back = c .before .before .before .before in
+    let turn = back .before .before .before .loop in
+    let start = back .before .before .before .before .before .before in
+    let fits = next-fits (start .args .bits .now) (start .args .all) (turn .i) (omega arith) (omega (arith, start .pre .1 .0)) in
+    omega (arith, fits, back .ones-of .ensures, turn .inv .1 .counted)
+
+add-i : tie.Need-add-i Inv-loop μ-loop
+add-i c = omega arith
+
+loop-less : tie.Need-loop-less Inv-loop μ-loop
+loop-less c = omega arith
+
+loop-again : tie.Need-loop-again Inv-loop μ-loop
+loop-again c =
+    let back = c .before .before .before .before in
+    let turn = back .before .before .before .loop in
+    (omega arith, rw (back .ones-of .ensures) (byte-written (turn .inv .1) (c .before .before .put-byte .ensures)))
+
+same-length : tie.Need-same-length Inv-loop μ-loop
+same-length c = c .before .loop .inv .1 .same-length
+
+returns : tie.Need-returns Inv-loop μ-loop
+returns c = all-written (c .before .loop .inv .1) (omega arith) (c .before .before .before .before .pre .1 .0)
+
+pub write-bytes-spec : {M : Type 1} → statement M
+write-bytes-spec =
+    tie.close
+    (tie.spec
+    Inv-loop
+    μ-loop
+    loop-holds
+    shared-slice-read-byte
+    ones-of-requires
+    mul-put-byte
+    cast-put-byte
+    put-byte-requires
+    add-at
+    add-i
+    loop-less
+    loop-again
+    same-length
+    returns)

@@ -1,0 +1,79 @@
+-- `positions::write_places` meets its contract: the rows of the places passed stand from the place on. Assumes nothing.
+use Prim.Native.Nat.{ℕ, _-_, _≤_}
+use native.Mathlib.Omega.{arith}
+use mathlib.Core.Path.{_≡_, ap, _∙_}
+use mathlib.Core.List.{map}
+use Rattle.basis.specs.Lists.{below}
+use Rattle.basis.specs.Buffers.{laid}
+use Rattle.basis.proofs.Buffers.{Filled, filled-nothing, filled-element}
+use Rattle.positions.specs.Steps.{rowAt}
+use Rattle.positions.proofs.write_places.Statement.{statement}
+use Rattle.positions.proofs.write_places.Tie as tie
+
+abbrev Inv-loop : tie.InvT-loop
+Inv-loop positions byte many first out₀ at k₀ out k = (k ≤ many) × Filled out₀ at (map (rowAt byte first) (below k)) out
+
+abbrev μ-loop : tie.MeasureT-loop
+μ-loop positions byte many first out₀ at k₀ out k = many - k
+
+loop-holds : tie.Need-loop-holds Inv-loop μ-loop
+loop-holds c = (omega arith, filled-nothing _ _)
+
+position-requires : tie.Need-position-requires Inv-loop μ-loop
+position-requires c κs =
+    let start = c .before .before .before in
+    (start .pre .0 .0, omega arith)
+
+add-out : tie.Need-add-out Inv-loop μ-loop
+add-out c = omega (arith, c .position .ensures .1)
+
+add-out-2 : tie.Need-add-out-2 Inv-loop μ-loop
+add-out-2 c = omega arith
+
+mul-out : tie.Need-mul-out Inv-loop μ-loop
+mul-out c = omega arith
+
+slice-write-out : tie.Need-slice-write-out Inv-loop μ-loop
+slice-write-out c = omega (arith, c .before .before .loop .inv .1 .same-length)
+
+add-k : tie.Need-add-k Inv-loop μ-loop
+add-k c = omega arith
+
+loop-less : tie.Need-loop-less Inv-loop μ-loop
+loop-less c = omega arith
+
+loop-again : tie.Need-loop-again Inv-loop μ-loop
+loop-again c =
+    let turn = c .before .before .loop in
+    let a = c .before .before .before .before .args in (
+      omega arith,
+      rw (c .position .ensures .0) (filled-element (a .out .now) (a .at) (rowAt (a .byte) (a .first)) (turn .k) (turn .inv .1) (omega arith)),
+    )
+
+same-length : tie.Need-same-length Inv-loop μ-loop
+same-length c = c .before .loop .inv .1 .same-length
+
+returns : tie.Need-returns Inv-loop μ-loop
+returns c =
+    let turn = c .before .loop in
+    let a = c .before .before .before .args in
+    let all : turn .k ≡ a .many = omega arith in
+    turn .inv .1 .filled ∙ ap (λ (n : ℕ). laid (a .out .now) (a .at) (map (rowAt (a .byte) (a .first)) (below n))) all
+
+pub write-places-spec : {M : Type 1} → statement M
+write-places-spec =
+    tie.close
+    (tie.spec
+    Inv-loop
+    μ-loop
+    loop-holds
+    position-requires
+    add-out
+    add-out-2
+    mul-out
+    slice-write-out
+    add-k
+    loop-less
+    loop-again
+    same-length
+    returns)

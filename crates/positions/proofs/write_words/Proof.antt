@@ -1,0 +1,109 @@
+-- `positions::write_words` meets its contract: each turn writes the rows of eight bytes more, and the last step those of the bytes left.
+-- Assumes nothing.
+use Prim.Native.Nat.{_-_, _≤_}
+use native.Mathlib.Omega.{arith}
+use lib.ListN.{length}
+use Rattle.bits.proofs.Words.{room-for-word}
+use Rattle.positions.proofs.Written.{Written, none-written, word-written, all-written}
+use Rattle.positions.proofs.write_words.Statement.{statement}
+use Rattle.positions.proofs.write_words.Tie as tie
+
+abbrev Inv-loop : tie.InvT-loop
+Inv-loop positions bits all out₀ at₀ i₀ out at i = (i ≤ length bits) × Written bits all out₀ out at i
+
+abbrev μ-loop : tie.MeasureT-loop
+μ-loop positions bits all out₀ at₀ i₀ out at i = length bits - i
+
+loop-holds : tie.Need-loop-holds Inv-loop μ-loop
+loop-holds c = (omega arith, none-written _ _ _)
+
+add-loop : tie.Need-add-loop Inv-loop μ-loop
+add-loop c = omega arith
+
+word-at-requires : tie.Need-word-at-requires Inv-loop μ-loop
+word-at-requires c κs = (omega arith, omega arith)
+
+mul-put-word : tie.Need-mul-put-word Inv-loop μ-loop
+mul-put-word c = omega arith
+
+cast-put-word : tie.Need-cast-put-word Inv-loop μ-loop
+cast-put-word c = omega arith
+
+put-word-requires : tie.Need-put-word-requires Inv-loop μ-loop
+put-word-requires c κs =
+    let turn = c .before .before .before .loop in
+    let start = c .before .before .before .before .before .before in
+    let room = room-for-word (c .before .word-at .ensures) (start .args .all) (omega arith) (omega (arith, start .pre .1 .0)) in (
+      (start .pre .0 .0, omega arith),
+      (omega (arith, room, turn .inv .1 .counted), omega (arith, start .pre .1 .1, turn .inv .1 .same-length)),
+    )
+
+add-i : tie.Need-add-i Inv-loop μ-loop
+add-i c = omega arith
+
+loop-less : tie.Need-loop-less Inv-loop μ-loop
+loop-less c = omega arith
+
+loop-again : tie.Need-loop-again Inv-loop μ-loop
+loop-again c =
+    let put = c .before .before in
+    let turn = put .before .before .before .before .loop in
+    (omega arith, word-written (turn .inv .1) (put .before .before .word-at .ensures) (put .put-word .ensures))
+
+sub-word-at : tie.Need-sub-word-at Inv-loop μ-loop
+sub-word-at c = omega arith
+
+word-at-requires-2 : tie.Need-word-at-requires-2 Inv-loop μ-loop
+word-at-requires-2 c κs = (omega arith, omega arith)
+
+mul-put-word-2 : tie.Need-mul-put-word-2 Inv-loop μ-loop
+mul-put-word-2 c = omega arith
+
+cast-put-word-2 : tie.Need-cast-put-word-2 Inv-loop μ-loop
+cast-put-word-2 c = omega arith
+
+put-word-requires-2 : tie.Need-put-word-requires-2 Inv-loop μ-loop
+put-word-requires-2 c κs =
+    let turn = c .before .before .before .loop in
+    let start = c .before .before .before .before .before .before in
+    let room = room-for-word (c .before .word-at2 .ensures) (start .args .all) (omega arith) (omega (arith, start .pre .1 .0)) in (
+      (start .pre .0 .0, omega arith),
+      (omega (arith, room, turn .inv .1 .counted), omega (arith, start .pre .1 .1, turn .inv .1 .same-length)),
+    )
+
+same-length : tie.Need-same-length Inv-loop μ-loop
+same-length c =
+    let put = c .before .before in
+    let turn = put .before .before .before .before .loop in
+    word-written (turn .inv .1) (put .before .before .word-at2 .ensures) (put .put-word2 .ensures) .same-length
+
+returns : tie.Need-returns Inv-loop μ-loop
+returns c =
+    let put = c .before .before in
+    let turn = put .before .before .before .before .loop in
+    let start = put .before .before .before .before .before .before .before in
+    let done = word-written (turn .inv .1) (put .before .before .word-at2 .ensures) (put .put-word2 .ensures) in
+    all-written done (omega arith) (start .pre .1 .0)
+
+pub write-words-spec : {M : Type 1} → statement M
+write-words-spec =
+    tie.close
+    (tie.spec
+    Inv-loop
+    μ-loop
+    loop-holds
+    add-loop
+    word-at-requires
+    mul-put-word
+    cast-put-word
+    put-word-requires
+    add-i
+    loop-less
+    loop-again
+    sub-word-at
+    word-at-requires-2
+    mul-put-word-2
+    cast-put-word-2
+    put-word-requires-2
+    same-length
+    returns)

@@ -1,0 +1,3 @@
+-- The table of positions, and what the steps by it write.
+pub mod Places
+pub mod Steps
