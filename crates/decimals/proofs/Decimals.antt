@@ -7,13 +7,10 @@
 --   decimal-digits      a decimal is all digits
 --   decimal-some        and at least one
 --   no-leading-zero     only 0 begins with 48
---   valueFrom           the number that further digits make of one that has begun
 --   value               the number that digits make
---   value-grows         more digits make no smaller a number
---   value-decimal       the number back from its decimal
---   same-number         numbers of one decimal are one
+--   value-one-more      that of a decimal and a further digit
 --   same-decimal        a decimal and what follows it, spelt in one way
---   begun-decimal       a decimal whose digits begin with another is no smaller, and the rest of it comes next
+--   begun-decimal       a decimal that begins with some digits is no smaller than what they make, and the rest of it comes next
 use Prim.Native.Nat.{ℕ, zero, suc, _+_, _-_, _*_, _/_, _%_, _^_, _<_, _≤_}
 use native.Mathlib.Omega.{arith}
 use native.Mathlib.Nat.{pow-succ', div-add-mod'}
@@ -108,6 +105,7 @@ decimal-some n fits = begins n fits .0
 pub no-leading-zero : (n : ℕ) → n < room → getD (decimal n) 0 0 ≡ 48 → n ≡ 0
 no-leading-zero n fits = begins n fits .1
 
+-- the number that further digits make of one that has begun
 unfoldable pub valueFrom : ℕ → List ℕ → ℕ
 valueFrom begun [] = begun
 valueFrom begun (b ∷ word) = valueFrom (begun * 10 + (b - 48)) word
@@ -137,16 +135,19 @@ value-decimal =
 same-number : (n m : ℕ) → n < room → m < room → decimal n ≡ decimal m → n ≡ m
 same-number n m small fits e = sym (value-decimal n small) ∙ ap value e ∙ value-decimal m fits
 
-module _ (n m : ℕ) (small : n < room) (fits : m < room) {ending : ℕ} {left : List ℕ} (stops : IsDigit ending → ⊥) where
-  pub same-decimal : {end : ℕ} {rest : List ℕ} → (IsDigit end → ⊥) → decimal n ++ (end ∷ rest) ≡ decimal m ++ (ending ∷ left) →
-      (n ≡ m) × (end ≡ ending) × (rest ≡ left)
-  same-decimal ends e =
-      let word = same-word IsDigit (decimal n) (decimal m) (decimal-digits n small) (decimal-digits m fits) ends stops e in
-      (same-number n m small fits (word .0), word .1, word .2)
+pub value-one-more : (n d : ℕ) → n < room → value (decimal n ++ (digit d ∷ [])) ≡ n * 10 + d
+unfolding valueFrom
+value-one-more n d fits = value-joined 0 (decimal n) (digit d ∷ []) ∙ rw (value-decimal n fits) (omega arith)
 
-  pub begun-decimal : {rest : List ℕ} → decimal n ++ rest ≡ decimal m ++ (ending ∷ left) →
-      (n ≤ m) × (more : List ℕ) × (rest ≡ more ++ (ending ∷ left))
-  begun-decimal e =
-      let word = word-at-front IsDigit (decimal n) (decimal m) (decimal-digits n small) stops e in
-      let longer : value (decimal n) ≤ value (decimal m) = rw (word .1) (value-grows (decimal n) (word .0)) in
-      (omega (arith, longer, value-decimal n small, value-decimal m fits), word .0, word .2)
+pub same-decimal : (n m : ℕ) → n < room → m < room → {end ending : ℕ} {rest left : List ℕ} → (IsDigit ending → ⊥) → (IsDigit end → ⊥) →
+    decimal n ++ (end ∷ rest) ≡ decimal m ++ (ending ∷ left) → (n ≡ m) × (end ≡ ending) × (rest ≡ left)
+same-decimal n m small fits stops ends e =
+    let word = same-word IsDigit (decimal n) (decimal m) (decimal-digits n small) (decimal-digits m fits) ends stops e in
+    (same-number n m small fits (word .0), word .1, word .2)
+
+pub begun-decimal : (word : List ℕ) (m : ℕ) → AllOf IsDigit word → m < room → {ending : ℕ} {rest left : List ℕ} → (IsDigit ending → ⊥) →
+    word ++ rest ≡ decimal m ++ (ending ∷ left) → (value word ≤ m) × (more : List ℕ) × (rest ≡ more ++ (ending ∷ left))
+begun-decimal word m digits fits stops e =
+    let front = word-at-front IsDigit word (decimal m) digits stops e in
+    let longer : value word ≤ value (decimal m) = rw (front .1) (value-grows word (front .0)) in
+    (omega (arith, longer, value-decimal m fits), front .0, front .2)

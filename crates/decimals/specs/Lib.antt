@@ -1,2 +1,3 @@
--- Decimals without leading zeros, and the bytes between them.
+-- Decimals without leading zeros, the bytes between them, and reading one.
 pub mod Decimals
+pub mod Reading

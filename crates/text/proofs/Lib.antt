@@ -1,7 +1,5 @@
 -- The laws of a query's text and of reading it.
 pub mod Lines
-pub mod Places
-pub mod Numbers
 pub mod Signs
 pub mod Formed
 pub mod ReadLines

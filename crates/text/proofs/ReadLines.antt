@@ -11,21 +11,23 @@ use native.Mathlib.Omega.{arith}
 use mathlib.Core.Path.{_≡_, sym, ap, ap₂, _∙_}
 use mathlib.Core.List.{List, _∷_, _++_, append-cancel-left}
 use lib.ListN.{length, getD, drop, List·getD-append}
+use Rattle.limits.specs.Limits.{decimalLimit}
 use Rattle.query.specs.declared.Comparison.{Comparison}
 use Rattle.query.specs.declared.Test.{Test}
 use Rattle.query.specs.Tests.{literalOf}
-use Rattle.text.specs.declared.After.the-variants.{Space, LineFeed}
-use Rattle.text.specs.declared.Number.{Number}
-use Rattle.text.specs.declared.Number.the-variants.{Value, NoNumber}
+use Rattle.decimals.specs.declared.After.the-variants.{Space, LineFeed}
+use Rattle.decimals.specs.declared.Number.{Number}
+use Rattle.decimals.specs.declared.Number.the-variants.{Value, NoNumber}
 use Rattle.text.specs.declared.Sign.the-variants.{Compares, NoSign}
 use Rattle.text.specs.declared.Line.the-variants.{Asks, Malformed}
 use Rattle.decimals.specs.Decimals.{decimal, space, lineFeed}
 use Rattle.text.specs.Lines.{segmentWord, signOf, testLine, SmallTest}
 use Rattle.text.specs.Reading.{BeginsSegment}
-use Rattle.text.specs.Steps.{NumberAt, SegmentAt, SignAt, LineAt}
+use Rattle.decimals.specs.Reading.{NumberAt}
+use Rattle.text.specs.Steps.{SegmentAt, SignAt, LineAt}
 use Rattle.decimals.proofs.Decimals.{same-decimal}
 use Rattle.text.proofs.Lines.{segment-line-then, test-line-then, same-sign}
-use Rattle.text.proofs.Places.{front-by-bytes}
+use Rattle.decimals.proofs.Places.{front-by-bytes}
 
 module _ (text : List ℕ) where
   pub word-read : ((k : ℕ) → k < 8 → getD text k 0 ≡ getD segmentWord k 0) → (8 ≤ length text) × (text ≡ segmentWord ++ drop 8 text)
@@ -39,7 +41,7 @@ module _ (text : List ℕ) where
       ∙ List·getD-append segmentWord (decimal (begins .0) ++ (lineFeed ∷ begins .1)) 0 k within)
 
   module _ (word : text ≡ segmentWord ++ drop 8 text) where
-    pub segment-read : (read : Number) → NumberAt text 8 LineFeed read → SegmentAt text read
+    pub segment-read : (read : Number) → NumberAt decimalLimit text 8 LineFeed read → SegmentAt text read
     segment-read (Value size next) number = (
       number .0,
       number .2,
@@ -50,10 +52,10 @@ module _ (text : List ℕ) where
         (append-cancel-left segmentWord _ _ (sym word ∙ begins .3 ∙ segment-line-then (begins .0) (begins .1)))
 
 module _ (text : List ℕ) (at : ℕ) where
-  pub column-missing : NumberAt text at Space NoNumber → LineAt text at Malformed
+  pub column-missing : NumberAt decimalLimit text at Space NoNumber → LineAt text at Malformed
   column-missing none test rest small e = none (test .column) _ (small .column) (e ∙ test-line-then test rest)
 
-  module _ {column behind : ℕ} (number : NumberAt text at Space (Value column behind)) where
+  module _ {column behind : ℕ} (number : NumberAt decimalLimit text at Space (Value column behind)) where
     -- a line that stands at the place goes on behind its column
     behind-column : (test : Test) (rest : List ℕ) → SmallTest test → drop at text ≡ testLine test ++ rest →
         drop behind text ≡ signOf (test .comparison) ++ (space ∷ (decimal (literalOf (test .comparison)) ++ (lineFeed ∷ rest)))
@@ -65,12 +67,12 @@ module _ (text : List ℕ) (at : ℕ) where
     sign-missing none test rest small e = none (test .comparison) _ (behind-column test rest small e)
 
     module _ (comparison : Comparison) {next : ℕ} (sign : SignAt text behind (Compares comparison next)) where
-      pub literal-missing : NumberAt text next LineFeed NoNumber → LineAt text at Malformed
+      pub literal-missing : NumberAt decimalLimit text next LineFeed NoNumber → LineAt text at Malformed
       literal-missing none test rest small e =
           none (literalOf (test .comparison)) rest (small .literal)
           (same-sign comparison (test .comparison) (sym (sign .2) ∙ behind-column test rest small e) .1)
 
-      pub line-read : {literal after : ℕ} → NumberAt text next LineFeed (Value literal after) → (asked : Comparison) →
+      pub line-read : {literal after : ℕ} → NumberAt decimalLimit text next LineFeed (Value literal after) → (asked : Comparison) →
           signOf asked ≡ signOf comparison → literalOf asked ≡ literal →
           LineAt text at (Asks (record { column = column; comparison = asked }) after)
       line-read {literal} {after} last asked same carried = (

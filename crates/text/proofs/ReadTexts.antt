@@ -14,7 +14,7 @@ use lib.ListN.{length, drop, set, length-append, length-drop, drop-of-length-le}
 use Rattle.query.specs.declared.Test.{Test}
 use Rattle.limits.specs.Limits.{mostTests}
 use Rattle.query.specs.Tests.{emptySlot, slotsOf}
-use Rattle.text.specs.declared.Number.the-variants.{Value}
+use Rattle.decimals.specs.declared.Number.the-variants.{Value}
 use Rattle.text.specs.declared.Line.the-variants.{Asks, Malformed}
 use Rattle.text.specs.declared.Asked.{Asked}
 use Rattle.text.specs.Lines.{segmentLine, testLine, textOf}

@@ -16,7 +16,7 @@ use Rattle.text.specs.declared.Sign.the-variants.{Compares, NoSign}
 use Rattle.decimals.specs.Decimals.{space}
 use Rattle.text.specs.Lines.{signOf}
 use Rattle.text.specs.Steps.{SignAt, spacedAt}
-use Rattle.text.proofs.Places.{byte-within, byte-then, byte-further, by-byte}
+use Rattle.decimals.proofs.Places.{byte-within, byte-then, byte-further, by-byte}
 
 pub record NotSigned (first second third : ℕ) : Type 0 where
   pub less : first ≡ 60 → second ≡ 32 → ⊥

@@ -8,43 +8,15 @@ use lib.ListN.{length, getD, drop}
 use Rattle.limits.specs.Limits.{decimalLimit}
 use Rattle.query.specs.declared.Comparison.{Comparison}
 use Rattle.query.specs.declared.Test.{Test}
-use Rattle.text.specs.declared.After.{After}
-use Rattle.text.specs.declared.After.the-variants.{Space, LineFeed}
-use Rattle.text.specs.declared.Number.{Number}
-use Rattle.text.specs.declared.Number.the-variants.{Value, NoNumber}
+use Rattle.decimals.specs.declared.Number.{Number}
+use Rattle.decimals.specs.declared.Number.the-variants.{Value, NoNumber}
 use Rattle.text.specs.declared.Sign.{Sign}
 use Rattle.text.specs.declared.Sign.the-variants.{Compares, NoSign}
 use Rattle.text.specs.declared.Line.{Line}
 use Rattle.text.specs.declared.Line.the-variants.{Asks, Malformed}
-use Rattle.decimals.specs.Decimals.{decimal, space, lineFeed}
+use Rattle.decimals.specs.Decimals.{space}
 use Rattle.text.specs.Lines.{signOf, segmentLine, testLine, SmallTest}
 use Rattle.text.specs.Reading.{BeginsSegment}
-
--- the byte that must follow a decimal
-abbrev pub afterByte : After → ℕ
-afterByte Space = space
-afterByte LineFeed = lineFeed
-
--- a number whose digits have been read and the place behind, if that byte follows
-abbrev pub endedBy : After → ℕ → ℕ → ℕ → Number
-endedBy after byte number next = cond (eqb byte (afterByte after)) (Value number next) NoNumber
-
--- a decimal and the byte that must follow: the number and the place behind, or there is none
-abbrev pub NumberAt : List ℕ → ℕ → After → Number → Type 0
-NumberAt text at after (Value number next) =
-    (number < decimalLimit) × (at < next) × (next ≤ length text)
-    × (drop at text ≡ decimal number ++ (afterByte after ∷ drop next text))
-NumberAt text at after NoNumber =
-    (number : ℕ) (rest : List ℕ) → number < decimalLimit → drop at text ≡ decimal number ++ (afterByte after ∷ rest) → ⊥
-
--- the same where a decimal has begun: its digits so far are those of a number, and the rest stands at the place
-abbrev pub DigitsAt : List ℕ → ℕ → After → ℕ → Number → Type 0
-DigitsAt text at after begun (Value number next) =
-    (number < decimalLimit) × (at < next) × (next ≤ length text)
-    × (decimal begun ++ drop at text ≡ decimal number ++ (afterByte after ∷ drop next text))
-DigitsAt text at after begun NoNumber =
-    (number : ℕ) (rest : List ℕ) → number < decimalLimit →
-    decimal begun ++ drop at text ≡ decimal number ++ (afterByte after ∷ rest) → ⊥
 
 -- line 0: the size and the place behind, or the text begins with none
 abbrev pub SegmentAt : List ℕ → Number → Type 0

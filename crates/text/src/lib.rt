@@ -1,6 +1,8 @@
 // Reads the text of a query: a line with the segment size and a line for each test. The text is
 // gone through once, from its first byte to its last.
 use answers::Refusal;
+use decimals::After;
+use decimals::Number;
 use limits::DECIMAL_LIMIT;
 use limits::MOST_TESTS;
 use query::Comparison;
@@ -10,31 +12,19 @@ ghost use mathlib.Core.Path.{_≡_};
 ghost use Prim.Native.Nat.{_+_, _<_, _≤_};
 ghost use lib.Dec.{eqb};
 ghost use lib.ListN.{length, getD};
-ghost use Rattle.limits.specs.Limits.{decimalLimit};
 ghost use Rattle.query.specs.Tests.{literalOf};
 ghost use Rattle.text.specs.Lines.{segmentWord, signOf};
 ghost use Rattle.text.specs.Reading.{Reads, refusedWith};
-ghost use Rattle.text.specs.Steps.{endedBy, NumberAt, DigitsAt, SegmentAt, SignAt, spacedAt, LineAt};
+ghost use Rattle.text.specs.Steps.{SegmentAt, SignAt, spacedAt, LineAt};
 
-// Decimals are below this.
+// No decimal is greater.
+const GREATEST_DECIMAL: u64 = DECIMAL_LIMIT - 1;
 
 // The reply to a text: the segment size and the query, or the refusal.
 pub struct Asked {
     pub refusal: Refusal,
     pub size: usize,
     pub query: Query,
-}
-
-// What must follow a decimal: a space after a column, a line feed at the end of a line.
-enum After {
-    Space,
-    LineFeed,
-}
-
-// A decimal with the byte after it, and the place behind both.
-enum Number {
-    Value(u64, usize),
-    NoNumber,
 }
 
 // A comparison by its sign, its literal still 0, and the place behind the space after it.
@@ -103,31 +93,18 @@ fn refused(number: usize, place: usize) -> Asked
     }
 }
 
-// The byte at a place, 0 where the text has ended. No line holds a 0.
-fn byte_at(text: &[u8], at: usize) -> u8
-    ensures { λ r. ⌜ r ≡ getD (now (text .entry)) at 0 ⌝ }
-{
-    if at < text.len() { text[at] } else { 0 }
-}
-
-fn wide(x: u8) -> u64
-    ensures { λ r. ⌜ (r ≡ x) × (r < 256) ⌝ }
-{
-    x as u64
-}
-
 // Line 0: the word "segment", a space, the size, a line feed.
 fn read_segment(text: &[u8]) -> Number
     ensures { λ r. ⌜ SegmentAt (now (text .entry)) r ⌝ }
 {
     let mut i = 0;
     while i < 8 {
-        if !begins(i, byte_at(text, i)) {
+        if !begins(i, decimals::byte_at(text, i)) {
             return Number::NoNumber;
         }
         i = i + 1;
     }
-    read_number(text, 8, After::LineFeed)
+    decimals::read_number(text, 8, After::LineFeed, GREATEST_DECIMAL)
 }
 
 // Whether this byte stands at a place of the word "segment" and its space.
@@ -152,7 +129,7 @@ fn read_line(text: &[u8], at: usize) -> Line
     requires { ⌜ at ≤ length (now text) ⌝ }
     ensures { λ r. ⌜ LineAt (now (text .entry)) at r ⌝ }
 {
-    let column = read_number(text, at, After::Space);
+    let column = decimals::read_number(text, at, After::Space, GREATEST_DECIMAL);
     let Number::Value(column, behind) = column else {
         return Line::Malformed;
     };
@@ -160,7 +137,7 @@ fn read_line(text: &[u8], at: usize) -> Line
     let Sign::Compares(comparison, behind) = sign else {
         return Line::Malformed;
     };
-    let literal = read_number(text, behind, After::LineFeed);
+    let literal = decimals::read_number(text, behind, After::LineFeed, GREATEST_DECIMAL);
     let Number::Value(literal, behind) = literal else {
         return Line::Malformed;
     };
@@ -192,8 +169,8 @@ fn read_sign(text: &[u8], at: usize) -> Sign
     requires { ⌜ at ≤ length (now text) ⌝ }
     ensures { λ r. ⌜ SignAt (now (text .entry)) at r ⌝ }
 {
-    let first = byte_at(text, at);
-    let second = byte_at(text, at + 1);
+    let first = decimals::byte_at(text, at);
+    let second = decimals::byte_at(text, at + 1);
     match first {
         b'<' => match second {
             b' ' => Sign::Compares(Comparison::Less(0), at + 2),
@@ -219,62 +196,9 @@ fn spaced(text: &[u8], at: usize, comparison: Comparison) -> Sign
     requires { ⌜ at ≤ length (now text) + 2 ⌝ }
     ensures { λ r. ⌜ r ≡ spacedAt (now (text .entry)) at comparison ⌝ }
 {
-    let byte = byte_at(text, at);
+    let byte = decimals::byte_at(text, at);
     match byte {
         b' ' => Sign::Compares(comparison, at + 1),
         _ => Sign::NoSign,
-    }
-}
-
-// A decimal without leading zeros, below 2^32, and the byte that must follow it.
-fn read_number(text: &[u8], at: usize, after: After) -> Number
-    requires { ⌜ at ≤ length (now text) ⌝ }
-    ensures { λ r. ⌜ NumberAt (now (text .entry)) at after r ⌝ }
-{
-    let first = byte_at(text, at);
-    match first {
-        b'0' => ended(after, byte_at(text, at + 1), 0, at + 2),
-        b'1'..=b'9' => read_digits(text, at + 1, after, wide(first) - 48),
-        _ => Number::NoNumber,
-    }
-}
-
-// Goes on with a decimal that is not 0, from a place on: its further digits, and the byte that must
-// follow them. It ends since each turn leaves less of the text.
-fn read_digits(text: &[u8], from: usize, after: After, begun: u64) -> Number
-    requires { ⌜ (from ≤ length (now text)) × (0 < begun) × (begun < decimalLimit) ⌝ }
-    ensures { λ r. ⌜ DigitsAt (now (text .entry)) from after begun r ⌝ }
-{
-    let mut number = begun;
-    let mut at = from;
-    while at < text.len() {
-        let byte = text[at];
-        match byte {
-            b'0'..=b'9' => {
-                number = number * 10 + (wide(byte) - 48);
-                if DECIMAL_LIMIT <= number {
-                    return Number::NoNumber;
-                }
-                at = at + 1;
-            }
-            _ => return ended(after, byte, number, at + 1),
-        }
-    }
-    Number::NoNumber
-}
-
-// The number and the place behind, if the byte after it is the one that must follow.
-fn ended(after: After, byte: u8, number: u64, next: usize) -> Number
-    ensures { λ r. ⌜ r ≡ endedBy after byte number next ⌝ }
-{
-    match after {
-        After::Space => match byte {
-            b' ' => Number::Value(number, next),
-            _ => Number::NoNumber,
-        },
-        After::LineFeed => match byte {
-            b'\n' => Number::Value(number, next),
-            _ => Number::NoNumber,
-        },
     }
 }

@@ -8,7 +8,7 @@ use mathlib.Core.List.{List}
 use borrow.Author.Needs.{needs}
 use lib.ListN.{length}
 use Rattle.text.specs.declared.Asked.{Asked}
-use Rattle.text.specs.declared.Number.{Number}
+use Rattle.decimals.specs.declared.Number.{Number}
 use Rattle.text.specs.declared.Line.the-variants.{Asks}
 use Rattle.text.specs.Reading.{Reads}
 use Rattle.text.specs.Steps.{SegmentAt, LineAt}

@@ -2,10 +2,12 @@
 use Prim.Native.Nat.{ℕ}
 use mathlib.Core.Path.{subst}
 use mathlib.Core.List.{List}
-use Rattle.text.specs.declared.After.the-variants.{Space, LineFeed}
-use Rattle.text.specs.declared.Number.the-variants.{Value}
+use Rattle.limits.specs.Limits.{decimalLimit}
+use Rattle.decimals.specs.declared.After.the-variants.{Space, LineFeed}
+use Rattle.decimals.specs.declared.Number.the-variants.{Value}
 use Rattle.text.specs.declared.Sign.the-variants.{Compares}
-use Rattle.text.specs.Steps.{NumberAt, SignAt}
+use Rattle.decimals.specs.Reading.{NumberAt}
+use Rattle.text.specs.Steps.{SignAt}
 use Rattle.text.proofs.ReadLines.{column-missing, sign-missing, literal-missing, line-read}
 use borrow.Author.Needs.{needs}
 use Rattle.text.proofs.read_line.Statement.{statement}
@@ -20,10 +22,10 @@ placeAt c = c .before .before .args .at
 
 -- what has been read, as far as a line goes on
 column-read : (c : tie.After-column) →
-    NumberAt (textAt (c .before .before)) (placeAt (c .before .before)) Space (Value (c .column .given .0 .0) (c .column .given .0 .1 .0))
+    NumberAt decimalLimit (textAt (c .before .before)) (placeAt (c .before .before)) Space (Value (c .column .given .0 .0) (c .column .given .0 .1 .0))
 column-read c =
     let read = c .before .before in
-    subst (NumberAt (textAt read) (placeAt read) Space) (c .column .given .1) (read .read-number .ensures)
+    subst (NumberAt decimalLimit (textAt read) (placeAt read) Space) (c .column .given .1) (read .read-number .ensures)
 
 sign-read : (c : tie.After-sign) →
     SignAt (textAt (c .before .before .before .before .before .before)) (c .before .before .before .before .column .given .0 .1 .0)
@@ -46,7 +48,7 @@ returns : tie.Need-returns
 returns c =
     let read = c .before .before in
     column-missing (textAt read) (placeAt read)
-    (subst (NumberAt (textAt read) (placeAt read) Space) (c .enum-told .given .1) (read .read-number .ensures))
+    (subst (NumberAt decimalLimit (textAt read) (placeAt read) Space) (c .enum-told .given .1) (read .read-number .ensures))
 
 read-sign-requires : tie.Need-read-sign-requires
 read-sign-requires c κs = column-read (c .before) .2
@@ -81,7 +83,7 @@ returns-3 c =
     let column = sign .before .before .before .before in
     let read = column .before .before in
     literal-missing (textAt read) (placeAt read) (column-read column) (sign .sign .given .0 .0) (sign-read sign)
-    (subst (NumberAt (textAt read) (sign .sign .given .0 .1 .0) LineFeed) (c .enum-told3 .given .1) (literal .read-number2 .ensures))
+    (subst (NumberAt decimalLimit (textAt read) (sign .sign .given .0 .1 .0) LineFeed) (c .enum-told3 .given .1) (literal .read-number2 .ensures))
 
 with-literal-requires : tie.Need-with-literal-requires
 with-literal-requires c κs = search needs
@@ -94,7 +96,7 @@ returns-4 c =
     let column = sign .before .before .before .before in
     let read = column .before .before in
     line-read (textAt read) (placeAt read) (column-read column) (sign .sign .given .0 .0) (sign-read sign)
-    (subst (NumberAt (textAt read) (sign .sign .given .0 .1 .0) LineFeed) (told .literal .given .1) (literal .read-number2 .ensures))
+    (subst (NumberAt decimalLimit (textAt read) (sign .sign .given .0 .1 .0) LineFeed) (told .literal .given .1) (literal .read-number2 .ensures))
     (c .with-literal .result) (c .with-literal .ensures .0) (c .with-literal .ensures .1)
 
 pub read-line-spec : {M : Type 1} → statement M

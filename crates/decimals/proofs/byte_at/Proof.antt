@@ -1,9 +1,9 @@
--- `text::byte_at` meets its contract: past the end of a list stands the default. Assumes nothing.
+-- `decimals::byte_at` meets its contract: past the end of a list stands the default. Assumes nothing.
 use mathlib.Core.Path.{sym}
 use lib.ListN.{List·getD-eq-default}
 use borrow.Author.Needs.{needs}
-use Rattle.text.proofs.byte_at.Statement.{statement}
-use Rattle.text.proofs.byte_at.Tie as tie
+use Rattle.decimals.proofs.byte_at.Statement.{statement}
+use Rattle.decimals.proofs.byte_at.Tie as tie
 
 shared-slice-read-result : tie.Need-shared-slice-read-result
 shared-slice-read-result c = search needs

@@ -1,10 +1,10 @@
--- `text::ended` meets its contract: the byte is the one that must follow, or it is not. Assumes nothing.
+-- `decimals::ended` meets its contract: the byte is the one that must follow, or it is not. Assumes nothing.
 use mathlib.Core.Path.{sym}
 use borrow.Author.Tests.{ne-eqb}
 use Rattle.basis.proofs.Truth.{missed}
 use borrow.Author.Needs.{needs}
-use Rattle.text.proofs.ended.Statement.{statement}
-use Rattle.text.proofs.ended.Tie as tie
+use Rattle.decimals.proofs.ended.Statement.{statement}
+use Rattle.decimals.proofs.ended.Tie as tie
 
 enum-told : tie.Need-enum-told
 enum-told c = search needs
