@@ -6,12 +6,6 @@ use borrow.Author.Needs.{needs}
 use Rattle.decimals.proofs.ended.Statement.{statement}
 use Rattle.decimals.proofs.ended.Tie as tie
 
-enum-told : tie.Need-enum-told
-enum-told c = search needs
-
-enum-told-2 : tie.Need-enum-told-2
-enum-told-2 c = search needs
-
 returns : tie.Need-returns
 returns c = rw (c .before .enum-told .given .1, c .match2 .keys1)
 
@@ -25,4 +19,4 @@ returns-4 : tie.Need-returns-4
 returns-4 c = rw (c .before .enum-told2 .given .1) (sym (missed _ _ _ (ne-eqb _ _ (c .match3 .rest .1))))
 
 pub ended-spec : {M : Type 1} → statement M
-ended-spec = tie.close (tie.spec enum-told enum-told-2 returns returns-2 returns-3 returns-4)
+ended-spec = tie.close (tie.spec (λ c. search needs) (λ c. search needs) returns returns-2 returns-3 returns-4)

@@ -66,15 +66,6 @@ loop-holds c =
     let given = c .before in
     first-digit (omega arith) _ _ (given .pre .2) (given .pre .0) (given .pre .1) (omega arith)
 
-shared-slice-read-byte : tie.Need-shared-slice-read-byte Inv-loop μ-loop
-shared-slice-read-byte c = omega arith
-
-wide-requires : tie.Need-wide-requires Inv-loop μ-loop
-wide-requires c κs = search needs
-
-sub-digit : tie.Need-sub-digit Inv-loop μ-loop
-sub-digit c = omega arith
-
 has-room-requires : tie.Need-has-room-requires Inv-loop μ-loop
 has-room-requires c κs = small-digit c
 
@@ -91,23 +82,11 @@ mul-number c = omega (arith, has-room c)
 add-number : tie.Need-add-number Inv-loop μ-loop
 add-number c = omega (arith, has-room c)
 
-add-at-2 : tie.Need-add-at-2 Inv-loop μ-loop
-add-at-2 c = omega arith
-
-loop-less : tie.Need-loop-less Inv-loop μ-loop
-loop-less c = omega arith
-
 loop-again : tie.Need-loop-again Inv-loop μ-loop
 loop-again c =
     let read = c .before .before in
     let turn = turnOf read in
     further-digit (bound turn) (textAt turn) _ (small-digit read) (digit-here read) (turn .loop .inv) (omega (arith, has-room c))
-
-add-ended : tie.Need-add-ended Inv-loop μ-loop
-add-ended c = omega arith
-
-ended-requires : tie.Need-ended-requires Inv-loop μ-loop
-ended-requires c κs = search needs
 
 returns-2 : tie.Need-returns-2 Inv-loop μ-loop
 returns-2 c =
@@ -128,17 +107,17 @@ read-digits-spec =
     μ-loop
     add-at
     loop-holds
-    shared-slice-read-byte
-    wide-requires
-    sub-digit
+    (λ c. omega arith)
+    (λ c κs. search needs)
+    (λ c. omega arith)
     has-room-requires
     returns
     mul-number
     add-number
-    add-at-2
-    loop-less
+    (λ c. omega arith)
+    (λ c. omega arith)
     loop-again
-    add-ended
-    ended-requires
+    (λ c. omega arith)
+    (λ c κs. search needs)
     returns-2
     returns-3)

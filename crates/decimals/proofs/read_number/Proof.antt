@@ -33,27 +33,6 @@ digit-here : (c : tie.After-wide) →
     (getD (textAt (firstOf c)) (placeAt (firstOf c)) 0 ≡ digit (c .wide .result - 48)) × (c .wide .result - 48 < 10)
 digit-here c = omega arith
 
-byte-at-requires : tie.Need-byte-at-requires
-byte-at-requires c κs = search needs
-
-add-byte-at : tie.Need-add-byte-at
-add-byte-at c = search needs
-
-byte-at-requires-2 : tie.Need-byte-at-requires-2
-byte-at-requires-2 c κs = search needs
-
-add-ended : tie.Need-add-ended
-add-ended c = search needs
-
-ended-requires : tie.Need-ended-requires
-ended-requires c κs = search needs
-
-wide-requires : tie.Need-wide-requires
-wide-requires c κs = search needs
-
-sub-begun : tie.Need-sub-begun
-sub-begun c = search needs
-
 returns : tie.Need-returns
 returns c =
     let read = c .before in
@@ -89,13 +68,13 @@ pub read-number-spec : {M : Type 1} → statement M
 read-number-spec =
     tie.close
     (tie.spec
-    byte-at-requires
-    add-byte-at
-    byte-at-requires-2
-    add-ended
-    ended-requires
-    wide-requires
-    sub-begun
+    (λ c κs. search needs)
+    (λ c. search needs)
+    (λ c κs. search needs)
+    (λ c. search needs)
+    (λ c κs. search needs)
+    (λ c κs. search needs)
+    (λ c. search needs)
     returns
     read-digits-requires
     returns-2

@@ -48,21 +48,6 @@ line-here c =
     let turn = c .before .before .before .before in
     subst (LineAt (textIn turn) (turn .loop .at)) (c .line .given .1) (c .before .before .read-line .ensures)
 
-empty-slot-requires : tie.Need-empty-slot-requires Inv-loop μ-loop
-empty-slot-requires c κs = search needs
-
-read-segment-requires : tie.Need-read-segment-requires Inv-loop μ-loop
-read-segment-requires c κs = search needs
-
-enum-known-first : tie.Need-enum-known-first Inv-loop μ-loop
-enum-known-first c = search needs
-
-enum-told : tie.Need-enum-told Inv-loop μ-loop
-enum-told c = search needs
-
-refused-requires : tie.Need-refused-requires Inv-loop μ-loop
-refused-requires c κs = search needs
-
 returns : tie.Need-returns Inv-loop μ-loop
 returns c =
     let read = c .before .before .before in
@@ -76,18 +61,6 @@ loop-holds c =
 read-line-requires : tie.Need-read-line-requires Inv-loop μ-loop
 read-line-requires c κs = c .before .loop .inv .within
 
-enum-known-line : tie.Need-enum-known-line Inv-loop μ-loop
-enum-known-line c = search needs
-
-enum-told-2 : tie.Need-enum-told-2 Inv-loop μ-loop
-enum-told-2 c = search needs
-
-add-refused : tie.Need-add-refused Inv-loop μ-loop
-add-refused c = omega arith
-
-refused-requires-2 : tie.Need-refused-requires-2 Inv-loop μ-loop
-refused-requires-2 c κs = search needs
-
 returns-2 : tie.Need-returns-2 Inv-loop μ-loop
 returns-2 c =
     let line = c .before .before .before in
@@ -95,12 +68,6 @@ returns-2 c =
     answered (c .refused2 .ensures)
     (malformed-line (turn .loop .inv) (line .before .loop-test .taken)
     (subst (LineAt (textIn turn) (turn .loop .at)) (c .before .enum-told2 .given .1) (line .read-line .ensures)))
-
-mul-tests : tie.Need-mul-tests Inv-loop μ-loop
-mul-tests c = omega arith
-
-array-set-from-tests : tie.Need-array-set-from-tests Inv-loop μ-loop
-array-set-from-tests c = omega arith
 
 add-count : tie.Need-add-count Inv-loop μ-loop
 add-count c =
@@ -121,9 +88,6 @@ loop-again c =
     (λ w. subst (ReadUpTo _ _ _ _) (sym (w .1)) (counted-line (turn .loop .inv) (line .line .given .0 .0) (line-here line) (omega arith)))
     (c .if1 .came)
 
-refused-requires-3 : tie.Need-refused-requires-3 Inv-loop μ-loop
-refused-requires-3 c κs = search needs
-
 returns-3 : tie.Need-returns-3 Inv-loop μ-loop
 returns-3 c =
     let turn = c .before .before .before in
@@ -141,24 +105,24 @@ read-spec =
     (tie.spec
     Inv-loop
     μ-loop
-    empty-slot-requires
-    read-segment-requires
-    enum-known-first
-    enum-told
-    refused-requires
+    (λ c κs. search needs)
+    (λ c κs. search needs)
+    (λ c. search needs)
+    (λ c. search needs)
+    (λ c κs. search needs)
     returns
     loop-holds
     read-line-requires
-    enum-known-line
-    enum-told-2
-    add-refused
-    refused-requires-2
+    (λ c. search needs)
+    (λ c. search needs)
+    (λ c. omega arith)
+    (λ c κs. search needs)
     returns-2
-    mul-tests
-    array-set-from-tests
+    (λ c. omega arith)
+    (λ c. omega arith)
     add-count
     loop-less
     loop-again
-    refused-requires-3
+    (λ c κs. search needs)
     returns-3
     returns-4)

@@ -38,12 +38,6 @@ sign-read c =
 read-number-requires : tie.Need-read-number-requires
 read-number-requires c κs = c .before .pre
 
-enum-known-column : tie.Need-enum-known-column
-enum-known-column c = search needs
-
-enum-told : tie.Need-enum-told
-enum-told c = search needs
-
 returns : tie.Need-returns
 returns c =
     let read = c .before .before in
@@ -52,12 +46,6 @@ returns c =
 
 read-sign-requires : tie.Need-read-sign-requires
 read-sign-requires c κs = column-read (c .before) .2
-
-enum-known-sign : tie.Need-enum-known-sign
-enum-known-sign c = search needs
-
-enum-told-2 : tie.Need-enum-told-2
-enum-told-2 c = search needs
 
 returns-2 : tie.Need-returns-2
 returns-2 c =
@@ -70,12 +58,6 @@ returns-2 c =
 read-number-requires-2 : tie.Need-read-number-requires-2
 read-number-requires-2 c κs = sign-read (c .before) .1
 
-enum-known-literal : tie.Need-enum-known-literal
-enum-known-literal c = search needs
-
-enum-told-3 : tie.Need-enum-told-3
-enum-told-3 c = search needs
-
 returns-3 : tie.Need-returns-3
 returns-3 c =
     let literal = c .before .before in
@@ -84,9 +66,6 @@ returns-3 c =
     let read = column .before .before in
     literal-missing (textAt read) (placeAt read) (column-read column) (sign .sign .given .0 .0) (sign-read sign)
     (subst (NumberAt decimalLimit (textAt read) (sign .sign .given .0 .1 .0) LineFeed) (c .enum-told3 .given .1) (literal .read-number2 .ensures))
-
-with-literal-requires : tie.Need-with-literal-requires
-with-literal-requires c κs = search needs
 
 returns-4 : tie.Need-returns-4
 returns-4 c =
@@ -104,16 +83,16 @@ read-line-spec =
     tie.close
     (tie.spec
     read-number-requires
-    enum-known-column
-    enum-told
+    (λ c. search needs)
+    (λ c. search needs)
     returns
     read-sign-requires
-    enum-known-sign
-    enum-told-2
+    (λ c. search needs)
+    (λ c. search needs)
     returns-2
     read-number-requires-2
-    enum-known-literal
-    enum-told-3
+    (λ c. search needs)
+    (λ c. search needs)
     returns-3
-    with-literal-requires
+    (λ c κs. search needs)
     returns-4)

@@ -16,45 +16,6 @@ textAt c = c .before .before .before .args .text .now
 abbrev placeAt : tie.After-byte-at2 → ℕ
 placeAt c = c .before .before .before .args .at
 
-byte-at-requires : tie.Need-byte-at-requires
-byte-at-requires c κs = search needs
-
-add-byte-at : tie.Need-add-byte-at
-add-byte-at c = search needs
-
-byte-at-requires-2 : tie.Need-byte-at-requires-2
-byte-at-requires-2 c κs = search needs
-
-add-t9 : tie.Need-add-t9
-add-t9 c = search needs
-
-add-spaced : tie.Need-add-spaced
-add-spaced c = search needs
-
-spaced-requires : tie.Need-spaced-requires
-spaced-requires c κs = search needs
-
-add-t14 : tie.Need-add-t14
-add-t14 c = search needs
-
-add-spaced-2 : tie.Need-add-spaced-2
-add-spaced-2 c = search needs
-
-spaced-requires-2 : tie.Need-spaced-requires-2
-spaced-requires-2 c κs = search needs
-
-add-spaced-3 : tie.Need-add-spaced-3
-add-spaced-3 c = search needs
-
-spaced-requires-3 : tie.Need-spaced-requires-3
-spaced-requires-3 c κs = search needs
-
-add-spaced-4 : tie.Need-add-spaced-4
-add-spaced-4 c = search needs
-
-spaced-requires-4 : tie.Need-spaced-requires-4
-spaced-requires-4 c κs = search needs
-
 returns : tie.Need-returns
 returns c =
     let both = c .before .before in
@@ -115,19 +76,19 @@ pub read-sign-spec : {M : Type 1} → statement M
 read-sign-spec =
     tie.close
     (tie.spec
-    byte-at-requires
-    add-byte-at
-    byte-at-requires-2
-    add-t9
-    add-spaced
-    spaced-requires
-    add-t14
-    add-spaced-2
-    spaced-requires-2
-    add-spaced-3
-    spaced-requires-3
-    add-spaced-4
-    spaced-requires-4
+    (λ c κs. search needs)
+    (λ c. search needs)
+    (λ c κs. search needs)
+    (λ c. search needs)
+    (λ c. search needs)
+    (λ c κs. search needs)
+    (λ c. search needs)
+    (λ c. search needs)
+    (λ c κs. search needs)
+    (λ c. search needs)
+    (λ c κs. search needs)
+    (λ c. search needs)
+    (λ c κs. search needs)
     returns
     returns-2
     returns-3

@@ -3,11 +3,8 @@ use borrow.Author.Needs.{needs}
 use Rattle.text.proofs.refused.Statement.{statement}
 use Rattle.text.proofs.refused.Tie as tie
 
-empty-slot-requires : tie.Need-empty-slot-requires
-empty-slot-requires c κs = search needs
-
 returns : tie.Need-returns
 returns c = rw (c .empty-slot .ensures)
 
 pub refused-spec : {M : Type 1} → statement M
-refused-spec = tie.close (tie.spec empty-slot-requires returns)
+refused-spec = tie.close (tie.spec (λ c κs. search needs) returns)

@@ -6,12 +6,6 @@ use borrow.Author.Needs.{needs}
 use Rattle.text.proofs.spaced.Statement.{statement}
 use Rattle.text.proofs.spaced.Tie as tie
 
-byte-at-requires : tie.Need-byte-at-requires
-byte-at-requires c κs = search needs
-
-add-t6 : tie.Need-add-t6
-add-t6 c = search needs
-
 returns : tie.Need-returns
 returns c = sym (hit _ _ _ (eq-eqb _ _ (sym (c .before .byte-at .ensures) ∙ c .match .keys1)))
 
@@ -19,4 +13,4 @@ returns-2 : tie.Need-returns-2
 returns-2 c = sym (missed _ _ _ (ne-eqb _ _ (λ e. c .match .rest .1 (c .before .byte-at .ensures ∙ e))))
 
 pub spaced-spec : {M : Type 1} → statement M
-spaced-spec = tie.close (tie.spec byte-at-requires add-t6 returns returns-2)
+spaced-spec = tie.close (tie.spec (λ c κs. search needs) (λ c. search needs) returns returns-2)
