@@ -1,4 +1,5 @@
 -- A line is read by its words: where each stands the line does, and where one is missing there is none. Assumes nothing.
+--   ColumnAt, LiteralAt the number at a place, by what follows it
 --   word-read           a text with the bytes of "segment " begins with them
 --   word-missing        a text with another byte among its first eight has no line 0
 --   segment-read        line 0 is the word and the decimal after it, or there is none
@@ -29,6 +30,13 @@ use Rattle.decimals.proofs.Decimals.{same-decimal}
 use Rattle.text.proofs.Lines.{segment-line-then, test-line-then, same-sign}
 use Rattle.decimals.proofs.Places.{front-by-bytes}
 
+-- the number at a place: a column, which a space follows, or a literal, which a line feed follows
+abbrev pub ColumnAt : List ℕ → ℕ → Number → Type 0
+ColumnAt text at = NumberAt decimalLimit text at Space
+
+abbrev pub LiteralAt : List ℕ → ℕ → Number → Type 0
+LiteralAt text at = NumberAt decimalLimit text at LineFeed
+
 module _ (text : List ℕ) where
   pub word-read : ((k : ℕ) → k < 8 → getD text k 0 ≡ getD segmentWord k 0) → (8 ≤ length text) × (text ≡ segmentWord ++ drop 8 text)
   word-read each = front-by-bytes segmentWord text (omega arith) each
@@ -41,7 +49,7 @@ module _ (text : List ℕ) where
       ∙ List·getD-append segmentWord (decimal (begins .0) ++ (lineFeed ∷ begins .1)) 0 k within)
 
   module _ (word : text ≡ segmentWord ++ drop 8 text) where
-    pub segment-read : (read : Number) → NumberAt decimalLimit text 8 LineFeed read → SegmentAt text read
+    pub segment-read : (read : Number) → LiteralAt text 8 read → SegmentAt text read
     segment-read (Value size next) number = (
       number .0,
       number .2,
@@ -52,10 +60,10 @@ module _ (text : List ℕ) where
         (append-cancel-left segmentWord _ _ (sym word ∙ begins .3 ∙ segment-line-then (begins .0) (begins .1)))
 
 module _ (text : List ℕ) (at : ℕ) where
-  pub column-missing : NumberAt decimalLimit text at Space NoNumber → LineAt text at Malformed
+  pub column-missing : ColumnAt text at NoNumber → LineAt text at Malformed
   column-missing none test rest small e = none (test .column) _ (small .column) (e ∙ test-line-then test rest)
 
-  module _ {column behind : ℕ} (number : NumberAt decimalLimit text at Space (Value column behind)) where
+  module _ {column behind : ℕ} (number : ColumnAt text at (Value column behind)) where
     -- a line that stands at the place goes on behind its column
     behind-column : (test : Test) (rest : List ℕ) → SmallTest test → drop at text ≡ testLine test ++ rest →
         drop behind text ≡ signOf (test .comparison) ++ (space ∷ (decimal (literalOf (test .comparison)) ++ (lineFeed ∷ rest)))
@@ -67,12 +75,12 @@ module _ (text : List ℕ) (at : ℕ) where
     sign-missing none test rest small e = none (test .comparison) _ (behind-column test rest small e)
 
     module _ (comparison : Comparison) {next : ℕ} (sign : SignAt text behind (Compares comparison next)) where
-      pub literal-missing : NumberAt decimalLimit text next LineFeed NoNumber → LineAt text at Malformed
+      pub literal-missing : LiteralAt text next NoNumber → LineAt text at Malformed
       literal-missing none test rest small e =
           none (literalOf (test .comparison)) rest (small .literal)
           (same-sign comparison (test .comparison) (sym (sign .2) ∙ behind-column test rest small e) .1)
 
-      pub line-read : {literal after : ℕ} → NumberAt decimalLimit text next LineFeed (Value literal after) → (asked : Comparison) →
+      pub line-read : {literal after : ℕ} → LiteralAt text next (Value literal after) → (asked : Comparison) →
           signOf asked ≡ signOf comparison → literalOf asked ≡ literal →
           LineAt text at (Asks (record { column = column; comparison = asked }) after)
       line-read {literal} {after} last asked same carried = (
