@@ -8,10 +8,9 @@ use mathlib.Core.List.{List}
 use borrow.Author.Needs.{needs}
 use lib.ListN.{length}
 use Rattle.text.specs.declared.Asked.{Asked}
-use Rattle.decimals.specs.declared.Number.{Number}
 use Rattle.text.specs.declared.Line.the-variants.{Asks}
 use Rattle.text.specs.Reading.{Reads}
-use Rattle.text.specs.Steps.{SegmentAt, LineAt}
+use Rattle.text.specs.Steps.{LineAt}
 use Rattle.text.proofs.ReadTexts.{ReadUpTo, first-line, kept-line, counted-line, malformed-line, whole-text, too-many-lines}
 use Rattle.text.proofs.read.Statement.{statement}
 use Rattle.text.proofs.read.Tie as tie
@@ -36,38 +35,28 @@ textIn c = textAt (c .before .before .before .before)
 answered : {text : List ℕ} {reply due : Asked} → reply ≡ due → Reads text due → Reads text reply
 answered {text} is reads = subst (Reads text) (sym is) reads
 
--- line 0 as it was read
-segment-here : (c : tie.After-read-segment Inv-loop μ-loop) {told : Number} → c .read-segment .result ≡ told → SegmentAt (textAt c) told
-segment-here c is = subst (SegmentAt (textAt c)) is (c .read-segment .ensures)
-
 -- the line that was read
 line-here : (c : tie.After-line Inv-loop μ-loop) →
     LineAt (textIn (c .before .before .before .before)) (c .before .before .before .before .loop .at)
     (Asks (c .line .given .0 .0) (c .line .given .0 .1 .0))
-line-here c =
-    let turn = c .before .before .before .before in
-    subst (LineAt (textIn turn) (turn .loop .at)) (c .line .given .1) (c .before .before .read-line .ensures)
+line-here c = rw (c .line .given .1) at (c .before .before .read-line .ensures)
 
 returns : tie.Need-returns Inv-loop μ-loop
 returns c =
     let read = c .before .before .before in
-    answered (c .refused .ensures) (Reads.no-segment (textAt read) (segment-here read (c .before .enum-told .given .1)))
+    answered (c .refused .ensures) (Reads.no-segment (textAt read) (rw (c .before .enum-told .given .1) at (read .read-segment .ensures)))
 
 loop-holds : tie.Need-loop-holds Inv-loop μ-loop
 loop-holds c =
     let read = c .before .before .before in
-    first-line (textAt read) _ (segment-here read (c .before .first .given .1)) (rw (read .before .empty-slot .ensures))
-
-read-line-requires : tie.Need-read-line-requires Inv-loop μ-loop
-read-line-requires c κs = c .before .loop .inv .within
+    first-line _ _ (rw (c .before .first .given .1) at (read .read-segment .ensures)) (rw (read .before .empty-slot .ensures))
 
 returns-2 : tie.Need-returns-2 Inv-loop μ-loop
 returns-2 c =
     let line = c .before .before .before in
-    let turn = line .before .before in
     answered (c .refused2 .ensures)
-    (malformed-line (turn .loop .inv) (line .before .loop-test .taken)
-    (subst (LineAt (textIn turn) (turn .loop .at)) (c .before .enum-told2 .given .1) (line .read-line .ensures)))
+    (malformed-line (line .before .before .loop .inv) (line .before .loop-test .taken)
+    (rw (c .before .enum-told2 .given .1) at (line .read-line .ensures)))
 
 add-count : tie.Need-add-count Inv-loop μ-loop
 add-count c =
@@ -84,20 +73,17 @@ loop-again c =
     let line = c .before .before in
     let turn = line .before .before .before .before in
     ⊎-elim
-    (λ w. subst (ReadUpTo _ _ _ _) (sym (w .1)) (kept-line (turn .loop .inv) (line .line .given .0 .0) (line-here line) (omega arith)))
-    (λ w. subst (ReadUpTo _ _ _ _) (sym (w .1)) (counted-line (turn .loop .inv) (line .line .given .0 .0) (line-here line) (omega arith)))
+    (λ w. subst (ReadUpTo _ _ _ _) (sym (w .1)) (kept-line (turn .loop .inv) _ (line-here line) (omega arith)))
+    (λ w. subst (ReadUpTo _ _ _ _) (sym (w .1)) (counted-line (turn .loop .inv) _ (line-here line) (omega arith)))
     (c .if1 .came)
 
 returns-3 : tie.Need-returns-3 Inv-loop μ-loop
 returns-3 c =
-    let turn = c .before .before .before in
     answered (c .refused3 .ensures)
-    (too-many-lines (turn .loop .inv) (c .before .before .loop-test .left) (omega arith))
+    (too-many-lines (c .before .before .before .loop .inv) (c .before .before .loop-test .left) (omega arith))
 
 returns-4 : tie.Need-returns-4 Inv-loop μ-loop
-returns-4 c =
-    let turn = c .before .before in
-    whole-text (turn .loop .inv) (c .before .loop-test .left) (omega arith)
+returns-4 c = whole-text (c .before .before .loop .inv) (c .before .loop-test .left) (omega arith)
 
 pub read-spec : {M : Type 1} → statement M
 read-spec =
@@ -112,7 +98,7 @@ read-spec =
     (λ c κs. search needs)
     returns
     loop-holds
-    read-line-requires
+    (λ c κs. c .before .loop .inv .within)
     (λ c. search needs)
     (λ c. search needs)
     (λ c. omega arith)

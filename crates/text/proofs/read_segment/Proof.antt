@@ -23,12 +23,7 @@ textAt c = c .before .before .before .args .text .now
 
 -- past the loop the word stands at the front
 read-here : (c : tie.After-loop Inv-loop μ-loop) → (8 ≤ length (textAt c)) × (textAt c ≡ segmentWord ++ drop 8 (textAt c))
-read-here c =
-    let turn = c .before in
-    word-read (textAt c) (λ k within. turn .loop .inv .1 k (omega arith))
-
-loop-holds : tie.Need-loop-holds Inv-loop μ-loop
-loop-holds c = (omega arith, below-none _)
+read-here c = word-read (textAt c) (λ k within. c .before .loop .inv .1 k (omega arith))
 
 returns : tie.Need-returns Inv-loop μ-loop
 returns c =
@@ -46,9 +41,6 @@ loop-again c =
           (sym (byte .ensures) ∙ eqb-true _ _ (sym (c .before .begins .ensures) ∙ not-false _ (c .if1 .left))),
     )
 
-read-number-requires : tie.Need-read-number-requires Inv-loop μ-loop
-read-number-requires c κs = read-here c .0
-
 returns-2 : tie.Need-returns-2 Inv-loop μ-loop
 returns-2 c = segment-read _ (read-here (c .before) .1) (c .read-number .result) (c .read-number .ensures)
 
@@ -58,12 +50,12 @@ read-segment-spec =
     (tie.spec
     Inv-loop
     μ-loop
-    loop-holds
+    (λ c. (omega arith, below-none _))
     (λ c κs. search needs)
     (λ c κs. search needs)
     returns
     (λ c. omega arith)
     (λ c. omega arith)
     loop-again
-    read-number-requires
+    (λ c κs. read-here c .0)
     returns-2)
