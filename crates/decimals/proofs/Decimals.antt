@@ -7,6 +7,7 @@
 --   decimal-digits      a decimal is all digits
 --   decimal-some        and at least one
 --   no-leading-zero     only 0 begins with 48
+--   valueFrom           the number that further digits make of one that has begun
 --   value               the number that digits make
 --   value-one-more      that of a decimal and a further digit
 --   same-decimal        a decimal and what follows it, spelt in one way
@@ -105,7 +106,6 @@ decimal-some n fits = begins n fits .0
 pub no-leading-zero : (n : ℕ) → n < room → getD (decimal n) 0 0 ≡ 48 → n ≡ 0
 no-leading-zero n fits = begins n fits .1
 
--- the number that further digits make of one that has begun
 unfoldable pub valueFrom : ℕ → List ℕ → ℕ
 valueFrom begun [] = begun
 valueFrom begun (b ∷ word) = valueFrom (begun * 10 + (b - 48)) word

@@ -17,7 +17,7 @@ use lib.ListN.{length, getD, drop, length-append, drop-of-length-le, List·getD-
 use Rattle.decimals.specs.declared.After.{After}
 use Rattle.decimals.specs.declared.After.the-variants.{Space, LineFeed}
 use Rattle.decimals.specs.declared.Number.{Number}
-use Rattle.decimals.specs.declared.Number.the-variants.{Value, NoNumber}
+use Rattle.decimals.specs.declared.Number.the-variants.{NoNumber}
 use Rattle.decimals.specs.Decimals.{digit, decimal}
 use Rattle.decimals.specs.Reading.{afterByte, endedBy, NumberAt}
 use Rattle.decimals.proofs.Words.{AllOf, joined-word, byte-of-word}
@@ -35,7 +35,7 @@ use Rattle.decimals.proofs.Decimals.{
   same-decimal,
   begun-decimal,
 }
-use Rattle.decimals.proofs.Places.{byte-within, byte-then, byte-further, by-byte}
+use Rattle.decimals.proofs.Places.{byte-then, byte-stands, byte-further, by-byte}
 
 -- the byte that must follow is no digit, nor 0
 after-low : (after : After) → (0 < afterByte after) × (afterByte after < 48)
@@ -62,9 +62,7 @@ module _ {limit : ℕ} (bound : limit ≤ room) where
   module _ (text : List ℕ) (at : ℕ) {d : ℕ} (small : d < 10) (is : getD text at 0 ≡ digit d) where
     -- the digit, and what follows
     stands : (at < length text) × (drop at text ≡ digit d ∷ drop (at + 1) text)
-    stands =
-        let within = byte-within text at (digit d) is (omega arith) in
-        (within, byte-then text at (at + 1) (digit d) refl within is)
+    stands = byte-stands text at (at + 1) (digit d) refl (omega arith) is
 
     pub first-digit : 0 < d → d < limit → Begun limit text at d (at + 1)
     first-digit some fits = record {
@@ -150,15 +148,9 @@ module _ {limit : ℕ} (bound : limit ≤ room) where
     zero-ends some is {byte} second said =
         by-byte (NumberAt limit text at after) byte (afterByte after) said
         (λ same.
-        let ends = sym second ∙ same in
-        let within = byte-within text at 48 is (omega arith) in
-        let behind = byte-within text (at + 1) (afterByte after) ends (after-low after .0) in (
-          some,
-          omega arith,
-          omega arith,
-          byte-then text at (at + 1) 48 refl within is
-              ∙ ap₂ _++_ (sym (decimal-of-digit 0 (omega arith))) (byte-then text (at + 1) (at + 2) _ (omega arith) behind ends),
-        ))
+        let here = byte-stands text at (at + 1) 48 refl (omega arith) is in
+        let behind = byte-stands text (at + 1) (at + 2) (afterByte after) (omega arith) (after-low after .0) (sym second ∙ same) in
+        (some, omega arith, omega arith, here .1 ∙ ap₂ _++_ (sym (decimal-of-digit 0 (omega arith))) (behind .1)))
         (λ differs. leading-zero is (λ ends. differs (second ∙ ends)))
 
     pub no-digit : (IsDigit (getD text at 0) → ⊥) → NumberAt limit text at after NoNumber

@@ -1,6 +1,7 @@
 -- The bytes from a place of a text on. Past the end of a text its bytes are 0. Assumes nothing.
 --   byte-within      a byte that is not 0 stands within the text
 --   byte-then        from a place on, its byte and then the rest
+--   byte-stands      a byte that is not 0: both
 --   byte-further     the bytes from a place on, by their distance
 --   front-by-bytes   a text that has the bytes of a word, none of them 0, begins with it
 --   by-byte          what is chosen by whether a byte is another: what holds of either holds of it
@@ -30,6 +31,11 @@ module _ (text : List ℕ) where
   pub byte-then : (at next b : ℕ) → next ≡ at + 1 → at < length text → getD text at 0 ≡ b → drop at text ≡ b ∷ drop next text
   byte-then at next b follows within is =
       drop-cons text at 0 within ∙ ap₂ (λ (byte place : ℕ). byte ∷ drop place text) is (sym (follows ∙ add-one at))
+
+  pub byte-stands : (at next b : ℕ) → next ≡ at + 1 → 0 < b → getD text at 0 ≡ b → (at < length text) × (drop at text ≡ b ∷ drop next text)
+  byte-stands at next b follows some is =
+      let within = byte-within at b is some in
+      (within, byte-then at next b follows within is)
 
   pub byte-further : (at i place : ℕ) {rest : List ℕ} → place ≡ at + i → drop at text ≡ rest → getD text place 0 ≡ getD rest i 0
   byte-further at i place far e =

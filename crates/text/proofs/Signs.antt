@@ -6,9 +6,9 @@
 --   sign-if-spaced   a sign whose bytes stand there, if a space follows
 use Prim.Native.Nat.{ℕ, _+_, _<_}
 use native.Mathlib.Omega.{arith}
-use mathlib.Core.Path.{_≡_, refl, ap, _∙_}
+use mathlib.Core.Path.{_≡_, refl, _∙_}
 use mathlib.Core.List.{List, [], _∷_, _++_}
-use lib.ListN.{getD}
+use lib.ListN.{length, getD, drop}
 use Rattle.query.specs.declared.Comparison.{Comparison}
 use Rattle.query.specs.declared.Comparison.the-variants.{Less, AtMost, More, AtLeast, Equal, Differs}
 use Rattle.text.specs.declared.Sign.{Sign}
@@ -16,7 +16,7 @@ use Rattle.text.specs.declared.Sign.the-variants.{Compares, NoSign}
 use Rattle.decimals.specs.Decimals.{space}
 use Rattle.text.specs.Lines.{signOf}
 use Rattle.text.specs.Steps.{SignAt, spacedAt}
-use Rattle.decimals.proofs.Places.{byte-within, byte-then, byte-further, by-byte}
+use Rattle.decimals.proofs.Places.{byte-stands, byte-further, by-byte}
 
 pub record NotSigned (first second third : ℕ) : Type 0 where
   pub less : first ≡ 60 → second ≡ 32 → ⊥
@@ -45,31 +45,21 @@ module _ (text : List ℕ) (at : ℕ) where
       refuted (Differs _) b c d = none .differs b c d
 
   module _ (comparison : Comparison) (first : ℕ) (some : 0 < first) (is : getD text at 0 ≡ first) where
+    first-stands : (at < length text) × (drop at text ≡ first ∷ drop (at + 1) text)
+    first-stands = byte-stands text at (at + 1) first refl some is
+
     pub short-sign : (next : ℕ) → signOf comparison ≡ first ∷ [] → next ≡ at + 2 → getD text (at + 1) 0 ≡ space →
         SignAt text at (Compares comparison next)
     short-sign next sign follows spaced =
-        let here = byte-within text at first is some in
-        let behind = byte-within text (at + 1) space spaced (omega arith) in (
-          omega arith,
-          omega arith,
-          byte-then text at (at + 1) first refl here is
-              ∙ rw sign (ap (λ (rest : List ℕ). first ∷ rest) (byte-then text (at + 1) next space (omega arith) behind spaced)),
-        )
+        let behind = byte-stands text (at + 1) next space (omega arith) (omega arith) spaced in
+        (omega arith, omega arith, first-stands .1 ∙ rw (sign, behind .1))
 
     pub long-sign : (next : ℕ) → signOf comparison ≡ first ∷ (61 ∷ []) → next ≡ at + 3 → getD text (at + 1) 0 ≡ 61 →
         getD text (at + 2) 0 ≡ space → SignAt text at (Compares comparison next)
     long-sign next sign follows second spaced =
-        let here = byte-within text at first is some in
-        let middle = byte-within text (at + 1) 61 second (omega arith) in
-        let behind = byte-within text (at + 2) space spaced (omega arith) in (
-          omega arith,
-          omega arith,
-          byte-then text at (at + 1) first refl here is
-              ∙ rw sign
-              (ap (λ (rest : List ℕ). first ∷ rest)
-              (byte-then text (at + 1) (at + 2) 61 (omega arith) middle second
-              ∙ ap (λ (rest : List ℕ). 61 ∷ rest) (byte-then text (at + 2) next space (omega arith) behind spaced))),
-        )
+        let middle = byte-stands text (at + 1) (at + 2) 61 (omega arith) (omega arith) second in
+        let behind = byte-stands text (at + 2) next space (omega arith) (omega arith) spaced in
+        (omega arith, omega arith, first-stands .1 ∙ rw (sign, middle .1, behind .1))
 
   pub sign-if-spaced : (next : ℕ) (comparison : Comparison) {sign : Sign} → sign ≡ spacedAt text next comparison →
       (getD text next 0 ≡ space → SignAt text at (Compares comparison (next + 1))) →

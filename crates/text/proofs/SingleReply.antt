@@ -1,7 +1,7 @@
 -- The promise of reading admits one reply: two replies to one text are the same. Assumes nothing.
 --   single-reply    said of the definition
---   one-reading     said of the call's own promise, its `ensures` as the check reads it: of the lifetimes κs, of what is lent, of the reply
---                   and of what was lent as it stands at exit
+--   one-reading     said of the call's own promise, its `ensures` as the check reads it: of the lifetimes κs, of what is lent, of
+--                   the reply and of what was lent as it stands at exit
 use Prim.Native.Nat.{ℕ}
 use mathlib.Core.Path.{_≡_, sym, subst, _∙_}
 use mathlib.Core.List.{List, _++_}

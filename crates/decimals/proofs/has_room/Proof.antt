@@ -16,10 +16,12 @@ returns c =
 returns-2 : tie.Need-returns-2
 returns-2 c =
     let given = c .before .before .args in
+    let last = given .most % 10 in
+    let longer = given .number * 10 + given .digit in
     ⊎-elim
-    (λ (over : given .most % 10 < given .digit). lt-leb _ _ over ∙ sym (lt-leb (given .number * 10 + given .digit) (given .most) (omega arith)))
-    (λ (fits : given .digit ≤ given .most % 10). le-leb _ _ fits ∙ sym (le-leb (given .number * 10 + given .digit) (given .most) (omega arith)))
-    (within-or-past (given .most % 10) (given .digit))
+    (λ (over : last < given .digit). lt-leb _ _ over ∙ sym (lt-leb longer (given .most) (omega arith)))
+    (λ (fits : given .digit ≤ last). le-leb _ _ fits ∙ sym (le-leb longer (given .most) (omega arith)))
+    (within-or-past last (given .digit))
 
 returns-3 : tie.Need-returns-3
 returns-3 c =
