@@ -8,6 +8,7 @@ ghost use lib.ListN.{length, getD};
 ghost use Rattle.basis.specs.Buffers.{laid};
 ghost use Rattle.register.specs.declared.Opened.the-variants.{Register};
 ghost use Rattle.register.specs.Opening.{openedOf};
+ghost use Rattle.register.specs.Cells.{codeAt};
 ghost use Rattle.limits.specs.Limits.{widest};
 ghost use Rattle.codes.specs.Bytes.{joined};
 ghost use Rattle.lookup.specs.Steps.{AllBelow, NoneAbove, RowWithin, place, gathered};
@@ -115,6 +116,16 @@ fn write_codes(file: &[u8], shape: Shape, column: usize, list: &[u32], out: &mut
         out[i] = code_of(file, width, offset, rows, wide(list[i]));
         i = i + 1;
     }
+}
+
+// The code of a row in a column of a file that opened as the shape.
+pub fn code_at(file: &[u8], shape: Shape, column: usize, row: usize) -> u64
+    requires { ⌜ (openedOf (now file) ≡ Register shape) × (column < shape .columns) × (row < shape .rows) ⌝ }
+    ensures { λ r. ⌜ r ≡ codeAt (now (file .entry)) column row ⌝ }
+{
+    let width = register::width_at(file, shape, column);
+    let offset = register::offset_at(file, shape, column);
+    code_of(file, width, offset, shape.rows, row)
 }
 
 // The code of a row: its bytes are gathered from the slices of a column that starts at the offset. Each

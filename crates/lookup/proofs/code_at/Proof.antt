@@ -1,0 +1,30 @@
+-- `lookup::code_at` meets its contract: in a file that opened the row's bytes stand in the body, and its code is theirs.
+-- Assumes nothing.
+use mathlib.Core.Path.{sym, _∙_}
+use borrow.Author.Needs.{needs}
+use Rattle.lookup.proofs.Rows.{some-width, narrow, row-within, code-gathered}
+use Rattle.lookup.proofs.code_at.Statement.{statement}
+use Rattle.lookup.proofs.code_at.Tie as tie
+
+width-at-requires : tie.Need-width-at-requires
+width-at-requires c κs = search needs
+
+offset-at-requires : tie.Need-offset-at-requires
+offset-at-requires c κs = search needs
+
+code-of-requires : tie.Need-code-of-requires
+code-of-requires c κs =
+    let width = c .before in
+    let asked = width .before .before .pre in
+    rw (width .width-at .ensures, c .offset-at .ensures)
+    (some-width _ _ (asked .0) _ (asked .1), narrow _ _ (asked .0) _ (asked .1), row-within _ _ (asked .0) _ (asked .1) _ (asked .2))
+
+returns : tie.Need-returns
+returns c =
+    let width = c .before .before in
+    let asked = width .before .before .pre in
+    c .code-of .ensures
+    ∙ rw (width .width-at .ensures, c .before .offset-at .ensures) (sym (code-gathered _ _ (asked .0) _ (asked .1) _))
+
+pub code-at-spec : {M : Type 1} → statement M
+code-at-spec = tie.close (tie.spec width-at-requires offset-at-requires code-of-requires returns)
