@@ -1,3 +1,2 @@
 -- The laws of the lines of a listing, and of writing them.
-pub mod OneCode
 pub mod Shapes

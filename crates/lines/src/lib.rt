@@ -10,7 +10,6 @@ ghost use mathlib.Core.List.{_∷_};
 ghost use Rattle.limits.specs.Limits.{mostColumns, longestCell, longestLine};
 ghost use Rattle.register.specs.declared.Opened.the-variants.{Register};
 ghost use Rattle.register.specs.Opening.{openedOf};
-ghost use Rattle.register.specs.Cells.{codeAt};
 ghost use Rattle.decimals.specs.Decimals.{decimal, space};
 ghost use Rattle.pieces.specs.Pieces.{Wrote};
 ghost use Rattle.lines.specs.Lines.{headLine, testLine, cells, rowLine, refusedLine};
@@ -86,7 +85,7 @@ fn put_cells(out: &mut [u8], from: usize, at: usize, file: &[u8], shape: Shape, 
     let mut next = at;
     let mut column = 0;
     while column < columns {
-        next = put_cell(out, from, next, code_of(file, shape, column, row));
+        next = put_cell(out, from, next, lookup::code_at(file, shape, column, row));
         column = column + 1;
     }
     next
@@ -98,15 +97,4 @@ fn put_cell(out: &mut [u8], from: usize, at: usize, code: u64) -> usize
 {
     let next = put(out, from, at, b' ');
     put_decimal(out, from, next, code)
-}
-
-// The code of a row in a column, looked up.
-fn code_of(file: &[u8], shape: Shape, column: usize, row: usize) -> u64
-    requires { ⌜ (openedOf (now file) ≡ Register shape) × (column < shape .columns) × (row < shape .rows) ⌝ }
-    ensures { λ r. ⌜ r ≡ codeAt (now (file .entry)) column row ⌝ }
-{
-    let rows = [row as u32];
-    let mut codes = [0u64];
-    lookup::look_up(file, column, &rows, &mut codes);
-    codes[0]
 }

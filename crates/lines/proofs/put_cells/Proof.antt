@@ -31,8 +31,8 @@ loop-holds : tie.Need-loop-holds Inv-loop μ-loop
 unfolding cells flatten
 loop-holds c = (omega arith, (omega arith, wrote-nothing _ _ _))
 
-code-of-requires : tie.Need-code-of-requires Inv-loop μ-loop
-code-of-requires c κs =
+code-at-requires : tie.Need-code-at-requires Inv-loop μ-loop
+code-at-requires c κs =
     let start = c .before .before .before .before .before in
     (start .pre .1, omega arith, start .pre .2)
 
@@ -52,7 +52,7 @@ loop-again c =
     let cell = c .before .before in
     let turn = cell .before .before .before .before .loop in
     let a = cell .before .before .before .before .before .before .before .args in
-    let written = rw (cell .before .code-of .ensures) at (cell .put-cell .ensures .0) in (
+    let written = rw (cell .before .code-at .ensures) at (cell .put-cell .ensures .0) in (
       omega arith,
       (
         omega (arith, cell .put-cell .ensures .1),
@@ -77,7 +77,7 @@ put-cells-spec =
     Inv-loop
     μ-loop
     loop-holds
-    code-of-requires
+    code-at-requires
     put-cell-requires
     add-column
     loop-less
