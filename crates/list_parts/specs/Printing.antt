@@ -9,7 +9,8 @@ use Rattle.files.specs.declared.Taken.{Taken}
 use Rattle.files.specs.declared.Taken.the-variants.{Unreadable}
 use Rattle.files.specs.Taking.{numberOf, countOf, TakenInto}
 use Rattle.limits.specs.Limits.{mostFile}
-use Rattle.listing.specs.Inputs.{unreadInput, ListedRead, PrintLength}
+use Rattle.pieces.specs.Pieces.{PieceWritten}
+use Rattle.listing.specs.Inputs.{unreadInput, PrintLength}
 use Rattle.list_parts.specs.declared.Piece.{Piece}
 use Rattle.list_parts.specs.declared.Printed.{Printed}
 
@@ -28,8 +29,8 @@ pub record TextTaken (file : Taken) (before after : List ℕ) (text : Taken) : T
 
 -- a piece is made of the listing from a place on, and no more of it is taken than was wanted of it: all that is left, as far as the
 -- buffer goes, so something where something is left
-pub record PieceOf (unread : Bool) (file text : List ℕ) (from : ℕ) (before after : List ℕ) (piece : Piece) : Type 0 where
-  pub made : ListedRead unread file text from before after (piece .all)
+pub record PieceOf (listing : List ℕ) (from : ℕ) (before after : List ℕ) (piece : Piece) : Type 0 where
+  pub made : PieceWritten listing from before after (piece .all)
   pub taken : piece .put ≤ piece .wanted
   pub wanted : piece .wanted ≡ min (length after) (piece .all - from)
 

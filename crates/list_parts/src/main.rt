@@ -4,12 +4,15 @@ use files::Taken;
 use libc::STDERR_FILENO;
 use libc::STDIN_FILENO;
 use libc::STDOUT_FILENO;
+use limits::MOST_BITS;
 use limits::MOST_FILE;
 use limits::MOST_TEXT;
+use listing::Found;
 ghost use mathlib.Core.Path.{_≡_};
 ghost use Prim.Native.Nat.{_-_, _≤_, _<_, min};
 ghost use lib.ListN.{length, take};
 ghost use Rattle.files.specs.Taking.{countOf};
+ghost use Rattle.listing.specs.Found.{Listable, foundLines};
 ghost use Rattle.listing.specs.Inputs.{unreadInputs};
 ghost use Rattle.list_parts.specs.Printing.{isRead, refusedFile, TextTaken, PieceOf, PrintedOf};
 
@@ -93,16 +96,26 @@ fn is_refused(taken: Taken) -> bool
     listing::unread(files::is_read(taken), files::bytes_of(taken), MOST_FILE)
 }
 
-// Prints the listing in pieces as long as `out`, and stops at the first that is not taken whole. It ends since each turn
-// before that writes a byte at least, and no listing is longer than a number can say.
+// Finds what the listing of the two inputs shows, once, and prints it.
 fn print_listing(taken: bool, file: &[u8], given: bool, text: &[u8], out: &mut [u8]) -> Printed
     requires { ⌜ 0 < length (now out) ⌝ }
     ensures { λ r. ⌜ PrintedOf (unreadInputs taken (length (now (file .entry))) given (length (now (text .entry))))
         (now (file .entry)) (now (text .entry)) r ⌝ }
 {
+    let mut bits = [0u8; MOST_BITS];
+    let found = listing::prepare(taken, file, given, text, &mut bits);
+    print_found(file, found, &bits, out)
+}
+
+// Prints the listing of what was found in pieces as long as `out`, and stops at the first that is not taken whole. It ends
+// since each turn before that writes a byte at least, and no listing is longer than a number can say.
+fn print_found(file: &[u8], found: Found, bits: &[u8; MOST_BITS], out: &mut [u8]) -> Printed
+    requires { ⌜ (0 < length (now out)) × Listable (now file) found ⌝ }
+    ensures { λ r. ⌜ (r .written ≤ r .all) × (r .all ≡ length (foundLines (now (file .entry)) (now (bits .entry)) found)) ⌝ }
+{
     let mut written: usize = 0;
     loop {
-        let piece = print_piece(taken, file, given, text, written, out);
+        let piece = print_piece(file, found, bits, written, out);
         written = written + piece.put;
         if piece.put < piece.wanted {
             return Printed {
@@ -121,17 +134,16 @@ fn print_listing(taken: bool, file: &[u8], given: bool, text: &[u8], out: &mut [
 
 // Makes the piece of the listing that begins at a place, and writes it.
 fn print_piece(
-    taken: bool,
     file: &[u8],
-    given: bool,
-    text: &[u8],
+    found: Found,
+    bits: &[u8; MOST_BITS],
     from: usize,
     out: &mut [u8],
 ) -> Piece
-    ensures { λ r. ⌜ PieceOf (unreadInputs taken (length (now (file .entry))) given (length (now (text .entry))))
-        (now (file .entry)) (now (text .entry)) from (now (out .entry)) (now (out .exit)) r ⌝ }
+    requires { ⌜ Listable (now file) found ⌝ }
+    ensures { λ r. ⌜ PieceOf (foundLines (now (file .entry)) (now (bits .entry)) found) from (now (out .entry)) (now (out .exit)) r ⌝ }
 {
-    let all = listing::write_read(taken, file, given, text, from, out);
+    let all = listing::write_found(file, found, bits, from, out);
     let wanted = least(out.len(), left(all, from));
     let put = files::put_all(STDOUT_FILENO, &out[..wanted]);
     Piece { put, wanted, all }

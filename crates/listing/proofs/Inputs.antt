@@ -1,26 +1,62 @@
--- What is printed of inputs, by whether both are taken. Assumes nothing.
---   file-unread    18, for the file
---   text-unread    18, for the text
---   both-read      the listing
+-- What is found of inputs, by whether both are taken, and what is printed of that. Assumes nothing.
+--   file-unread, text-unread    18, for the file or for the text
+--   both-read                   what the listing of the two shows
+--   listed-of-inputs            a piece of what was found is a piece of what is printed
+--   length-of-inputs            and is as long in all
+--   inputs-can-be-listed        and can be written
 use Prim.Native.Nat.{ℕ}
-use mathlib.Core.Path.{_≡_}
+use mathlib.Core.Path.{_≡_, refl, sym, ap, _∙_}
 use mathlib.Core.List.{List}
-use mathlib.Core.Bool.{Bool, true, false, _||_}
-use Rattle.pieces.specs.Pieces.{Wrote}
+use mathlib.Core.Bool.{Bool, true, false, _||_, true≢false}
+use native.Mathlib.Omega.{arith}
+use lib.ListN.{length}
+use Rattle.answers.specs.declared.Refusal.{Refusal}
+use Rattle.pieces.specs.Pieces.{PieceWritten}
 use Rattle.lines.specs.Lines.{refusedLine}
-use Rattle.listing.specs.Listing.{Listed}
-use Rattle.listing.specs.Inputs.{refusal18, ListedRead}
-use Rattle.listing.proofs.Outcomes.{piece-written}
+use Rattle.listing.specs.declared.Found.{Found}
+use Rattle.listing.specs.Found.{FoundIn, Listable, foundLines}
+use Rattle.listing.specs.Inputs.{refusal18, FoundRead, ListedRead, PrintLength}
+use Rattle.listing.proofs.FoundListing.{refusal-listed, same-listing, can-be-listed, listed-in}
 
-module _ (first second : Bool) (file text : List ℕ) (from : ℕ) (before after : List ℕ) (answer : ℕ) where
-  abbrev Told : Type 0
-  Told = ListedRead (first || second) file text from before after answer
+module _ (first second : Bool) (file text bits : List ℕ) (found : Found) where
+  -- one that is not taken
+  unread : first || second ≡ true → found .refusal ≡ refusal18 → FoundRead (first || second) file text bits found
+  unread is told = record { refused = λ _. told; listed = λ taken. absurd (true≢false (sym is ∙ taken)) }
 
-  pub file-unread : first ≡ true → Wrote from 0 (refusedLine refusal18) before after answer → Told
-  file-unread is wrote = rw is (piece-written wrote)
+  pub file-unread : first ≡ true → found .refusal ≡ refusal18 → FoundRead (first || second) file text bits found
+  file-unread is = unread (rw is)
 
-  pub text-unread : first ≡ false → second ≡ true → Wrote from 0 (refusedLine refusal18) before after answer → Told
-  text-unread known is wrote = rw (known, is) (piece-written wrote)
+  pub text-unread : first ≡ false → second ≡ true → found .refusal ≡ refusal18 → FoundRead (first || second) file text bits found
+  text-unread known is = unread (rw (known, is))
 
-  pub both-read : first ≡ false → second ≡ false → Listed file text from before after answer → Told
-  both-read known given listed = rw (known, given) listed
+  pub both-read : first ≡ false → second ≡ false → FoundIn file text bits found → FoundRead (first || second) file text bits found
+  both-read known given made = record {
+    refused = λ not-taken. absurd (true≢false (sym not-taken ∙ rw (known, given)));
+    listed = λ _. made;
+  }
+
+module _ (file text bits : List ℕ) (found : Found) where
+  -- 18 is a refusal
+  numbered : found .refusal ≡ refusal18 → found .refusal .number ≡ 0 → ⊥
+  numbered told none = let is = ap (λ (r : Refusal). r .number) told in absurd (omega arith)
+
+  told-18 : found .refusal ≡ refusal18 → foundLines file bits found ≡ refusedLine refusal18
+  told-18 told = refusal-listed file bits found (numbered told) ∙ ap refusedLine told
+
+  pub listed-of-inputs : (unread : Bool) → FoundRead unread file text bits found → (from : ℕ) (before : List ℕ) {after : List ℕ}
+      {answer : ℕ} → PieceWritten (foundLines file bits found) from before after answer → ListedRead unread file text from before after answer
+  listed-of-inputs true made from before piece = rw (told-18 (made .refused refl)) at piece
+  listed-of-inputs false made from before piece = listed-in file text bits found (made .listed refl) from before piece
+
+  pub length-of-inputs : (unread : Bool) → FoundRead unread file text bits found → {all : ℕ} → all ≡ length (foundLines file bits found) →
+      PrintLength unread file text all
+  length-of-inputs true made is = is ∙ ap length (told-18 (made .refused refl))
+  length-of-inputs false made is =
+      let listed = made .listed refl in
+      (listed .0, (listed .1 .0, is ∙ ap length (same-listing file (listed .0) bits found (listed .1 .1))))
+
+  pub inputs-can-be-listed : (unread : Bool) → FoundRead unread file text bits found → Listable file found
+  inputs-can-be-listed true made = λ none. absurd (numbered (made .refused refl) none)
+  inputs-can-be-listed false made =
+      let listed = made .listed refl in
+      can-be-listed file (listed .0) bits found (listed .1 .1) (listed .1 .0)

@@ -3,6 +3,6 @@ pub mod OneMore
 pub mod Numbered
 pub mod FoundLines
 pub mod Outcomes
+pub mod FoundListing
 pub mod Inputs
 pub mod SingleReply
-pub mod Lengths

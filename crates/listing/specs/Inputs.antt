@@ -11,7 +11,9 @@ use Rattle.text.specs.declared.Asked.{Asked}
 use Rattle.text.specs.Reading.{Reads}
 use Rattle.pieces.specs.Pieces.{PieceWritten}
 use Rattle.lines.specs.Lines.{refusedLine}
+use Rattle.listing.specs.declared.Found.{Found}
 use Rattle.listing.specs.Listing.{listingOf, Listed}
+use Rattle.listing.specs.Found.{FoundIn}
 
 -- an input that could not be read, or is over its limit
 abbrev pub unreadInput : Bool → ℕ → ℕ → Bool
@@ -24,6 +26,11 @@ refusal18 = record { number = 18; place = 0; need = 0 }
 -- one of the two is not taken: the file is judged first, but 18 says the same of both
 abbrev pub unreadInputs : Bool → ℕ → Bool → ℕ → Bool
 unreadInputs taken file given text = unreadInput taken file mostFile || unreadInput given text mostText
+
+-- what is found of inputs: 18 where one is not taken, or what the listing shows
+pub record FoundRead (unread : Bool) (file text bits : List ℕ) (found : Found) : Type 0 where
+  pub refused : unread ≡ true → found .refusal ≡ refusal18
+  pub listed : unread ≡ false → FoundIn file text bits found
 
 -- a piece of what is printed: the line of 18 where an input is not taken, or the listing
 abbrev pub ListedRead : Bool → List ℕ → List ℕ → ℕ → List ℕ → List ℕ → ℕ → Type 0

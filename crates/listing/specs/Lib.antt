@@ -1,4 +1,5 @@
--- The listing, and what the program prints of its inputs.
+-- The listing, what is found for it, and what the program prints of its inputs.
 pub mod Listing
-pub mod Inputs
 pub mod Steps
+pub mod Found
+pub mod Inputs

@@ -50,7 +50,7 @@ answerLines file query scanned =
     ++ (testLines file (query .tests) (scanned .counts) (query .count) ++ rowLines file (rowsFound file query))
 
 -- the line of a refusal, or, where its number is 0, what else is listed
-abbrev refusedOr : Refusal → List ℕ → List ℕ
+abbrev pub refusedOr : Refusal → List ℕ → List ℕ
 refusedOr refusal lines = cond (eqb (refusal .number) 0) lines (refusedLine refusal)
 
 -- the listing: the text's refusal, then that of the scan, which opens the file first, or the lines of the answer

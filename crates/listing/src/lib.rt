@@ -9,9 +9,11 @@ use lines::head_line;
 use lines::refused_line;
 use lines::row_line;
 use lines::test_line;
+use query::Query;
 use query::Test;
 use register::Opened;
 use register::Shape;
+use text::Asked;
 ghost use mathlib.Core.Path.{_≡_};
 ghost use Prim.Native.Nat.{suc, _+_, _*_, _^_, _≤_, _<_};
 ghost use lib.ListN.{length};
@@ -21,10 +23,21 @@ ghost use Rattle.register.specs.Opening.{openedOf};
 ghost use Rattle.bits.specs.Marked.{marked, markedBelow};
 ghost use Rattle.basis.specs.Lists.{those};
 ghost use mathlib.Core.List.{[], _∷_};
-ghost use Rattle.pieces.specs.Pieces.{Wrote};
+ghost use Rattle.pieces.specs.Pieces.{Wrote, PieceWritten};
 ghost use Rattle.listing.specs.Listing.{Listed, testLines, rowLines};
-ghost use Rattle.listing.specs.Inputs.{unreadInput, unreadInputs, refusal18, ListedRead};
+ghost use Rattle.listing.specs.Found.{FoundBy, FoundIn, Listable, foundLines};
+ghost use Rattle.listing.specs.Inputs.{unreadInput, unreadInputs, refusal18, FoundRead, ListedRead};
 ghost use Rattle.listing.specs.Steps.{ColumnsBelow};
+
+// What a listing shows: the refusal, or, where its number is 0, the register's shape, how many rows
+// match, how many bytes each test needed, and the query. The bits of the rows stand beside it.
+pub struct Found {
+    pub refusal: Refusal,
+    pub shape: Shape,
+    pub matches: usize,
+    pub counts: [usize; MOST_TESTS],
+    pub query: Query,
+}
 
 // Writes a piece of what the program prints, of a file that was taken or not and a text that was given
 // or not: refused by 18 where one was not or has too many bytes, and else the listing of the two.
@@ -40,13 +53,40 @@ pub fn write_read(
     ensures { λ r. ⌜ ListedRead (unreadInputs taken (length (now (file .entry))) given (length (now (text .entry))))
         (now (file .entry)) (now (text .entry)) from (now (out .entry)) (now (out .exit)) r ⌝ }
 {
+    let mut bits = [0u8; MOST_BITS];
+    let found = prepare(taken, file, given, text, &mut bits);
+    write_found(file, found, &bits, from, out)
+}
+
+// Writes a piece of the listing of a file and a query's text: its bytes from a place on, as many as
+// `out` has room for. Answers how many bytes the whole listing has.
+pub fn write(file: &[u8], text: &[u8], from: usize, out: &mut [u8]) -> usize
+    ensures { λ r. ⌜ Listed (now (file .entry)) (now (text .entry)) from (now (out .entry)) (now (out .exit)) r ⌝ }
+{
+    let mut bits = [0u8; MOST_BITS];
+    let found = find(file, text, &mut bits);
+    write_found(file, found, &bits, from, out)
+}
+
+// Finds what the program prints, of which any piece can then be written: refusal 18 where an input was
+// not taken or has too many bytes, and else what the listing of the two shows.
+pub fn prepare(
+    taken: bool,
+    file: &[u8],
+    given: bool,
+    text: &[u8],
+    bits: &mut [u8; MOST_BITS],
+) -> Found
+    ensures { λ r. ⌜ FoundRead (unreadInputs taken (length (now (file .entry))) given (length (now (text .entry))))
+        (now (file .entry)) (now (text .entry)) (now (bits .exit)) r ⌝ }
+{
     if unread(taken, file.len(), MOST_FILE) {
-        return refused_line(out, from, unreadable());
+        return refused(unreadable());
     }
     if unread(given, text.len(), MOST_TEXT) {
-        return refused_line(out, from, unreadable());
+        return refused(unreadable());
     }
-    write(file, text, from, out)
+    find(file, text, bits)
 }
 
 // Whether an input is unfit to be taken.
@@ -66,32 +106,82 @@ fn unreadable() -> Refusal
     }
 }
 
-// Writes a piece of the listing of a file and a query's text: its bytes from a place on, as many as
-// `out` has room for. Answers how many bytes the whole listing has.
-pub fn write(file: &[u8], text: &[u8], from: usize, out: &mut [u8]) -> usize
-    ensures { λ r. ⌜ Listed (now (file .entry)) (now (text .entry)) from (now (out .entry)) (now (out .exit)) r ⌝ }
+// Finds what the listing of a file and a query's text shows, and leaves the bits of the rows found.
+pub fn find(file: &[u8], text: &[u8], bits: &mut [u8; MOST_BITS]) -> Found
+    ensures { λ r. ⌜ FoundIn (now (file .entry)) (now (text .entry)) (now (bits .exit)) r ⌝ }
 {
     let asked = text::read(text);
     let refusal = asked.refusal;
     if refusal.number != 0 {
-        return refused_line(out, from, refusal);
+        return refused(refusal);
     }
+    find_rows(file, asked, bits)
+}
+
+// Opens the file and scans it, as a text asks that was read.
+fn find_rows(file: &[u8], asked: Asked, bits: &mut [u8; MOST_BITS]) -> Found
+    requires { ⌜ asked .refusal .number ≡ 0 ⌝ }
+    ensures { λ r. ⌜ FoundBy (now (file .entry)) asked (now (bits .exit)) r ⌝ }
+{
     let opened = register::open(file);
     let Opened::Register(shape) = opened else {
-        return refused_line(out, from, register::refusal_of(opened));
+        return refused(register::refusal_of(opened));
     };
     let query = asked.query;
-    let mut bits = [0u8; MOST_BITS];
-    let scanned = scan::scan(file, asked.size, query, &mut bits);
+    let scanned = scan::scan(file, asked.size, query, bits);
     let refusal = scanned.refusal;
+    let counts = scanned.counts;
+    Found {
+        refusal,
+        shape,
+        matches: scanned.matches,
+        counts,
+        query,
+    }
+}
+
+// What is found where a listing is refused.
+fn refused(refusal: Refusal) -> Found
+    ensures { λ r. ⌜ r .refusal ≡ refusal ⌝ }
+{
+    Found {
+        refusal,
+        shape: Shape {
+            rows: 0,
+            columns: 0,
+        },
+        matches: 0,
+        counts: [0; MOST_TESTS],
+        query: Query {
+            count: 0,
+            tests: [query::empty_slot(); MOST_TESTS],
+        },
+    }
+}
+
+// Writes a piece of the listing of what was found: its bytes from a place on, as many as `out` has room
+// for. Answers how many bytes the whole listing has.
+pub fn write_found(
+    file: &[u8],
+    found: Found,
+    bits: &[u8; MOST_BITS],
+    from: usize,
+    out: &mut [u8],
+) -> usize
+    requires { ⌜ Listable (now file) found ⌝ }
+    ensures { λ r. ⌜ PieceWritten (foundLines (now (file .entry)) (now (bits .entry)) found) from (now (out .entry)) (now (out .exit)) r ⌝ }
+{
+    let refusal = found.refusal;
     if refusal.number != 0 {
         return refused_line(out, from, refusal);
     }
+    let shape = found.shape;
+    let query = found.query;
     let tests = query.tests;
-    let counts = scanned.counts;
-    let next = head_line(out, from, shape.rows, scanned.matches);
+    let counts = found.counts;
+    let next = head_line(out, from, shape.rows, found.matches);
     let next = test_lines(out, from, next, file, shape, tests, query.count, counts);
-    row_lines(out, from, next, file, shape, &bits)
+    row_lines(out, from, next, file, shape, bits)
 }
 
 // A line for each test.

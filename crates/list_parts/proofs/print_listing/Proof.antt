@@ -1,67 +1,21 @@
--- `list_parts::print_listing` meets its contract: each piece begins where those before it end, and no more is written than there is.
--- The measure is how many numbers are left above what is written. Assumes nothing.
-use Prim.Native.Nat.{_+_, _-_, _≤_, _<_, _^_}
-use native.Mathlib.Omega.{arith}
-use mathlib.Core.Path.{_≡_, refl}
-use lib.ListN.{length}
+-- `list_parts::print_listing` meets its contract: what is printed is what was found of the inputs. Assumes nothing.
 use borrow.Author.Needs.{needs}
-use Rattle.listing.specs.Inputs.{unreadInputs}
-use Rattle.list_parts.proofs.Pieces.{Reached, length-told, piece-ends, goes-on, some-wanted}
+use Rattle.listing.proofs.Inputs.{inputs-can-be-listed, length-of-inputs}
 use Rattle.list_parts.proofs.print_listing.Statement.{statement}
 use Rattle.list_parts.proofs.print_listing.Tie as tie
 
-abbrev Inv-loop : tie.InvT-loop
-Inv-loop taken file given text out₀ written₀ out written =
-    (0 < length out) × (length out ≡ length out₀) × Reached (unreadInputs taken (length file) given (length text)) file text written
+print-found-requires : tie.Need-print-found-requires
+print-found-requires c κs =
+    let found = c .before .before in
+    (search needs, inputs-can-be-listed _ _ _ _ _ (found .prepare .ensures))
 
-abbrev μ-loop : tie.MeasureT-loop
-μ-loop taken file given text out₀ written₀ out written = 2 ^ 64 - written
-
--- the piece of a turn, which ends within the listing
-abbrev turn : tie.After-print-piece Inv-loop μ-loop → tie.At-loop Inv-loop μ-loop
-turn c = c .before .before
-
-ends : (c : tie.After-print-piece Inv-loop μ-loop) → turn c .loop .written + c .print-piece .result .put ≤ c .print-piece .result .all
-ends c = piece-ends _ _ _ _ _ _ _ (c .print-piece .ensures) (turn c .loop .inv .2)
-
-loop-holds : tie.Need-loop-holds Inv-loop μ-loop
-loop-holds c = (omega arith, refl, λ all known. omega arith)
-
-add-written : tie.Need-add-written Inv-loop μ-loop
-add-written c = omega (arith, ends (c .before .before .before))
-
-returns : tie.Need-returns Inv-loop μ-loop
+returns : tie.Need-returns
 returns c =
-    let put = c .before .before .before .before .before in
-    record { within = ends put; whole = length-told _ _ _ _ _ _ _ (put .print-piece .ensures) }
-
-returns-2 : tie.Need-returns-2 Inv-loop μ-loop
-returns-2 c =
-    let put = c .before .before .before .before .before .before .before in
-    record { within = ends put; whole = length-told _ _ _ _ _ _ _ (put .print-piece .ensures) }
-
-loop-less : tie.Need-loop-less Inv-loop μ-loop
-loop-less c =
-    let put = c .before .before .before .before .before .before .before in
-    omega (arith, ends put, some-wanted _ _ _ _ _ _ _ (put .print-piece .ensures) (omega arith) (omega (arith, ends put)))
-
-loop-again : tie.Need-loop-again Inv-loop μ-loop
-loop-again c =
-    let put = c .before .before .before .before .before .before .before in
-    (omega arith, search needs, goes-on _ _ _ _ _ _ _ (put .print-piece .ensures) (turn put .loop .inv .2))
+    let printed = c .before .before in
+    record {
+      within = printed .print-found .ensures .0;
+      whole = length-of-inputs _ _ _ _ _ (printed .before .before .before .prepare .ensures) (printed .print-found .ensures .1);
+    }
 
 pub print-listing-spec : {M : Type 1} → statement M
-print-listing-spec =
-    tie.close
-    (tie.spec
-    Inv-loop
-    μ-loop
-    loop-holds
-    (λ c κs. search needs)
-    add-written
-    (λ c. search needs)
-    returns
-    (λ c. search needs)
-    returns-2
-    loop-less
-    loop-again)
+print-listing-spec = tie.close (tie.spec (λ c κs. search needs) print-found-requires (λ c. search needs) returns)

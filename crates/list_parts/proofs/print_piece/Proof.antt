@@ -10,7 +10,7 @@ use Rattle.list_parts.proofs.print_piece.Statement.{statement}
 use Rattle.list_parts.proofs.print_piece.Tie as tie
 
 -- what is wanted of the buffer is there
-there : (c : tie.After-least) → c .least .result ≤ length (c .before .before .before .before .write-read .last .1 .1 .1 .1 .1 .0)
+there : (c : tie.After-least) → c .least .result ≤ length (c .before .before .before .before .write-found .last .1 .1 .1 .1 .0)
 there c = rw (c .least .ensures) (min-le-left _ _)
 
 slice-aggregate-put-all : tie.Need-slice-aggregate-put-all
@@ -21,9 +21,9 @@ returns c =
     let chosen = c .before .before in
     let made = chosen .before .before .before .before in
     record {
-      made = made .write-read .ensures;
-      taken = omega (arith, c .put-all .ensures, length-take-le (chosen .least .result) (made .write-read .last .1 .1 .1 .1 .1 .0) (there chosen));
-      wanted = chosen .least .ensures ∙ ap (min (length (made .write-read .last .1 .1 .1 .1 .1 .0))) (chosen .before .left .ensures);
+      made = made .write-found .ensures;
+      taken = omega (arith, c .put-all .ensures, length-take-le (chosen .least .result) (made .write-found .last .1 .1 .1 .1 .0) (there chosen));
+      wanted = chosen .least .ensures ∙ ap (min (length (made .write-found .last .1 .1 .1 .1 .0))) (chosen .before .left .ensures);
     }
 
 pub print-piece-spec : {M : Type 1} → statement M

@@ -1,0 +1,68 @@
+-- `listing::write_found` meets its contract: the line of the refusal, or the lines of the answer one behind the other. Assumes nothing.
+use borrow.Author.Needs.{needs}
+use Rattle.pieces.proofs.Writing.{written-then}
+use Rattle.listing.proofs.FoundListing.{piece-written, refusal-listed, rows-listed}
+use Rattle.listing.proofs.write_found.Statement.{statement}
+use Rattle.listing.proofs.write_found.Tie as tie
+
+abbrev startOf : tie.Else1 → tie.Start
+startOf c = c .before .before .before .before .before
+
+-- the first line is written where nothing is refused
+abbrev acceptedAt : tie.After-head-line → tie.Else1
+acceptedAt c = c .before .before .before .before .before .before
+
+refused-line-requires : tie.Need-refused-line-requires
+refused-line-requires c κs = search needs
+
+same-length : tie.Need-same-length
+same-length c = search needs
+
+returns : tie.Need-returns
+returns c =
+    let line = c .before .before in
+    let judged = line .before .before in
+    let a = judged .before .before .before .before .before .args in
+    rw (refusal-listed (a .file .now) (a .bits .now) (a .found) (judged .if1 .taken)) (piece-written (line .refused-line .ensures))
+
+head-line-requires : tie.Need-head-line-requires
+head-line-requires c κs = search needs
+
+test-lines-requires : tie.Need-test-lines-requires
+test-lines-requires c κs =
+    let head = c .before .before .before in
+    let accepted = acceptedAt head in
+    let can = startOf accepted .pre (accepted .if1 .left) in
+    (head .head-line .ensures .1, can .0, can .1, can .2)
+
+row-lines-requires : tie.Need-row-lines-requires
+row-lines-requires c κs =
+    let tests = c .before .before .before .before in
+    let accepted = acceptedAt (tests .before .before .before .before) in
+    (tests .test-lines .ensures .1, startOf accepted .pre (accepted .if1 .left) .0)
+
+same-length-2 : tie.Need-same-length-2
+same-length-2 c = search needs
+
+returns-2 : tie.Need-returns-2
+returns-2 c =
+    let rows = c .before .before in
+    let tests = rows .before .before .before .before .before in
+    let head = tests .before .before .before .before in
+    let accepted = acceptedAt head in
+    let a = startOf accepted .args in
+    rw (rows-listed (a .file .now) (a .bits .now) (a .found) (accepted .if1 .left))
+    (piece-written (written-then (head .head-line .ensures .0) (written-then (tests .test-lines .ensures .0) (rows .row-lines .ensures))))
+
+pub write-found-spec : {M : Type 1} → statement M
+write-found-spec =
+    tie.close
+    (tie.spec
+    refused-line-requires
+    same-length
+    returns
+    head-line-requires
+    test-lines-requires
+    row-lines-requires
+    same-length-2
+    returns-2)
