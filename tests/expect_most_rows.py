@@ -1,5 +1,5 @@
 #!/usr/bin/env python3
-"""Prints what the program `most_rows` must print, from the codes alone: row by row, with the counts by the printed rule.
+"""Prints what the program `try_most_rows` must print, from the codes alone: row by row, with the counts by the printed rule.
 
 It knows nothing of the product's code. The rows found are those whose codes meet every test. A slice of a segment counts for a
 test while some row of the segment is equal by the bytes before it on that test and not ruled out by any test by those bytes.
@@ -78,6 +78,10 @@ def main():
     show('a byte more, 64', 64, FOUR)
     refused('a byte short, 64', (10, 0, NEED))
     show('no tests, 8', 8, [])
+    refused('17 tests, 8', (11, 0, 0))
+    refused('a great count, 8', (11, 0, 0))
+    refused('17 tests, 24', (14, 0, 0))
+    refused('no file, 17 tests, 7', (1, 0, 0))
     refused('1048577 rows, 8', (3, 0, 0))
 
 

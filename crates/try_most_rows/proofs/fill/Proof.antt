@@ -1,4 +1,4 @@
--- `most_rows::fill` meets its contract: every byte passed is filled. Assumes nothing.
+-- `try_most_rows::fill` meets its contract: every byte passed is filled. Assumes nothing.
 use Prim.Native.Nat.{ℕ, _-_, _≤_}
 use mathlib.Core.Path.{_≡_, refl, ap, _∙_}
 use mathlib.Core.List.{_++_, append-nil}
@@ -6,8 +6,8 @@ use native.Mathlib.Omega.{arith}
 use lib.ListN.{length, replicate, drop, drop-of-length-le}
 use borrow.Author.Fill.{fill-more}
 use borrow.Author.Needs.{needs}
-use Rattle.most_rows.proofs.fill.Statement.{statement}
-use Rattle.most_rows.proofs.fill.Tie as tie
+use Rattle.try_most_rows.proofs.fill.Statement.{statement}
+use Rattle.try_most_rows.proofs.fill.Tie as tie
 
 abbrev Inv-loop : tie.InvT-loop
 Inv-loop result₀ i₀ i-end result i =

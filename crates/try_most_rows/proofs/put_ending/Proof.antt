@@ -1,4 +1,4 @@
--- `most_rows::put_ending` meets its contract: the bytes passed stand behind the body. Assumes nothing.
+-- `try_most_rows::put_ending` meets its contract: the bytes passed stand behind the body. Assumes nothing.
 use Prim.Native.Nat.{ℕ, _-_, _≤_}
 use mathlib.Core.Path.{_≡_, sym, ap, _∙_}
 use mathlib.Core.List.{map}
@@ -11,10 +11,10 @@ use Rattle.basis.specs.Buffers.{laid}
 use Rattle.basis.specs.Numbers.{toLittle}
 use Rattle.basis.proofs.Buffers.{Filled, filled-nothing, filled-element}
 use Rattle.basis.proofs.Truth.{hit, missed}
-use Rattle.most_rows.specs.Made.{bodyBytes, fileBytes, ending}
+use Rattle.try_most_rows.specs.Made.{bodyBytes, fileBytes, ending}
 use borrow.Author.Needs.{needs}
-use Rattle.most_rows.proofs.put_ending.Statement.{statement}
-use Rattle.most_rows.proofs.put_ending.Tie as tie
+use Rattle.try_most_rows.proofs.put_ending.Statement.{statement}
+use Rattle.try_most_rows.proofs.put_ending.Tie as tie
 
 abbrev byteAt : ℕ → ℕ
 byteAt i = getD ending i 0

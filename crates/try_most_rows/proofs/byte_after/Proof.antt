@@ -1,9 +1,9 @@
--- `most_rows::byte_after` meets its contract: past the end there is nothing to read. Assumes nothing.
+-- `try_most_rows::byte_after` meets its contract: past the end there is nothing to read. Assumes nothing.
 use mathlib.Core.Path.{sym}
 use lib.ListN.{List·getD-eq-default}
 use borrow.Author.Needs.{needs}
-use Rattle.most_rows.proofs.byte_after.Statement.{statement}
-use Rattle.most_rows.proofs.byte_after.Tie as tie
+use Rattle.try_most_rows.proofs.byte_after.Statement.{statement}
+use Rattle.try_most_rows.proofs.byte_after.Tie as tie
 
 shared-slice-read-wide : tie.Need-shared-slice-read-wide
 shared-slice-read-wide c = search needs

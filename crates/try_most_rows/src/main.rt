@@ -13,7 +13,7 @@ ghost use Prim.Native.Nat.{_+_, _<_, _≤_};
 ghost use lib.ListN.{length, getD, set, replicate};
 ghost use Rattle.basis.specs.Buffers.{laid};
 ghost use Rattle.query.specs.Tests.{testsOf};
-ghost use Rattle.most_rows.specs.Made.{bodyBytes, fileBytes, ifLong, HasCodes, ending, testOf};
+ghost use Rattle.try_most_rows.specs.Made.{bodyBytes, fileBytes, ifLong, HasCodes, ending, testOf};
 
 // A column of 12 bits is two slices; a directory of 8 bytes and a trailer of 16 follow them.
 const BODY: usize = 2 * MOST_ROWS;
@@ -39,6 +39,7 @@ fn show_all(file: &mut [u8], result: &mut [u8]) {
     put_codes(file);
     put_ending(file);
     show_limit(file, result);
+    show_counts(file, result);
     put_one_row_more(file);
     show(b"1048577 rows, 8", file, 8, four(), result, NEED);
 }
@@ -123,6 +124,28 @@ fn show_sizes(file: &[u8], result: &mut [u8]) {
 fn show_rooms(file: &[u8], result: &mut [u8]) {
     show(b"a byte more, 64", file, 64, four(), result, WITH_ONE_MORE);
     show(b"a byte short, 64", file, 64, four(), result, NEED - 1);
+}
+
+// Queries that no text can ask, as they count more tests than there are slots. A file comes first, then the segment size.
+fn show_counts(file: &[u8], result: &mut [u8]) {
+    let below = test(Comparison::Less(512));
+    let many = counted(below, 17);
+    let most = counted(below, 18446744073709551615);
+    show(b"17 tests, 8", file, 8, many, result, NEED);
+    show(b"a great count, 8", file, 8, most, result, NEED);
+    show(b"17 tests, 24", file, 24, many, result, NEED);
+    let no_file = [1u8, 2, 3];
+    show(b"no file, 17 tests, 7", &no_file, 7, many, result, NEED);
+}
+
+// The same test in every slot, and a count of so many.
+fn counted(same: Test, count: usize) -> Query
+    ensures { λ r. ⌜ (r .count ≡ count) × (r .tests ≡ replicate 16 same) ⌝ }
+{
+    Query {
+        count,
+        tests: [same; 16],
+    }
 }
 
 fn none() -> Query

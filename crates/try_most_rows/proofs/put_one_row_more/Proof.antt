@@ -1,10 +1,10 @@
--- `most_rows::put_one_row_more` meets its contract: one byte is stored where there is room. Assumes nothing.
+-- `try_most_rows::put_one_row_more` meets its contract: one byte is stored where there is room. Assumes nothing.
 use mathlib.Core.Path.{sym}
 use borrow.Author.Needs.{needs}
 use borrow.Author.Tests.{lt-ltb, le-ltb}
 use Rattle.basis.proofs.Truth.{hit, missed}
-use Rattle.most_rows.proofs.put_one_row_more.Statement.{statement}
-use Rattle.most_rows.proofs.put_one_row_more.Tie as tie
+use Rattle.try_most_rows.proofs.put_one_row_more.Statement.{statement}
+use Rattle.try_most_rows.proofs.put_one_row_more.Tie as tie
 
 returns : tie.Need-returns
 returns c = sym (hit _ _ _ (lt-ltb _ _ (c .if1 .taken)))

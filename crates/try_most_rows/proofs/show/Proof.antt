@@ -1,10 +1,10 @@
--- `most_rows::show` is safe: the part of the result that is lent is a prefix of it. Assumes nothing.
+-- `try_most_rows::show` is safe: the part of the result that is lent is a prefix of it. Assumes nothing.
 use mathlib.Core.Path.{sym}
 use native.Mathlib.Omega.{arith}
 use lib.Seq.{length-take-le}
 use borrow.Author.Needs.{needs}
-use Rattle.most_rows.proofs.show.Statement.{statement}
-use Rattle.most_rows.proofs.show.Tie as tie
+use Rattle.try_most_rows.proofs.show.Statement.{statement}
+use Rattle.try_most_rows.proofs.show.Tie as tie
 
 fill-requires : tie.Need-fill-requires
 fill-requires c κs = search needs

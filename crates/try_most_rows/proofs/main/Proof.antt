@@ -1,10 +1,10 @@
--- `most_rows::main` makes two buffers and lends them whole. Assumes nothing.
+-- `try_most_rows::main` makes two buffers and lends them whole. Assumes nothing.
 use Prim.Native.Nat.{ℕ}
 use mathlib.Core.Path.{sym}
 use lib.ListN.{length-replicate}
 use borrow.Author.Needs.{needs}
-use Rattle.most_rows.proofs.main.Statement.{statement}
-use Rattle.most_rows.proofs.main.Tie as tie
+use Rattle.try_most_rows.proofs.main.Statement.{statement}
+use Rattle.try_most_rows.proofs.main.Tie as tie
 
 slice-aggregate-show-all : tie.Need-slice-aggregate-show-all
 slice-aggregate-show-all c = sym (length-replicate {A = ℕ} 2097176 0)

@@ -1,14 +1,14 @@
--- `most_rows::put_codes` meets its contract: the codes of the rows passed are in place. Assumes nothing.
+-- `try_most_rows::put_codes` meets its contract: the codes of the rows passed are in place. Assumes nothing.
 use Prim.Native.Nat.{_+_, _-_, _/_, _≤_}
 use mathlib.Core.Path.{_≡_, refl, _∙_}
 use lib.ListN.{length, length-set, getD, set}
 use lib.Seq.{getD-set-same, getD-set-other}
 use borrow.Author.Count.{below-none, below-more}
-use Rattle.most_rows.specs.Made.{codeOf, HasCodes}
+use Rattle.try_most_rows.specs.Made.{codeOf, HasCodes}
 use native.Mathlib.Omega.{arith}
 use borrow.Author.Needs.{needs}
-use Rattle.most_rows.proofs.put_codes.Statement.{statement}
-use Rattle.most_rows.proofs.put_codes.Tie as tie
+use Rattle.try_most_rows.proofs.put_codes.Statement.{statement}
+use Rattle.try_most_rows.proofs.put_codes.Tie as tie
 
 abbrev Inv-loop : tie.InvT-loop
 Inv-loop file₀ row₀ file row = (row ≤ 1048576) × (length file ≡ length file₀) × HasCodes row file

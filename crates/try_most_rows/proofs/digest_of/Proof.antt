@@ -1,8 +1,8 @@
--- `most_rows::digest_of` is safe: the running sum stays below what it is divided by. Assumes nothing.
+-- `try_most_rows::digest_of` is safe: the running sum stays below what it is divided by. Assumes nothing.
 use Prim.Native.Nat.{_-_, _<_}
 use borrow.Author.Needs.{needs}
-use Rattle.most_rows.proofs.digest_of.Statement.{statement}
-use Rattle.most_rows.proofs.digest_of.Tie as tie
+use Rattle.try_most_rows.proofs.digest_of.Statement.{statement}
+use Rattle.try_most_rows.proofs.digest_of.Tie as tie
 
 abbrev Inv-loop : tie.InvT-loop
 Inv-loop result digest₀ i₀ digest i = digest < 65521
