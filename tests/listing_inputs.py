@@ -5,7 +5,7 @@ from contextlib import contextmanager
 from pathlib import Path
 from typing import NamedTuple, Optional, Union
 
-from make_damaged import MANY_COLUMNS, TEN_ROWS, TOP, entry, good, trailer
+from make_damaged import DAMAGED, MANY_COLUMNS, STATED, TEN_ROWS, TOP, entry, good, trailer
 
 MISSING, FOLDER, CLOSED = 'missing', 'a folder', 'closed'
 SETTLED = b'segment 8\n0 < 512\n1 = 5\n'
@@ -82,11 +82,10 @@ def examples():
 
 def damaged():
     """The stored files, by the numbers that are stored with them."""
-    folder = TOP / 'crates' / 'damaged'
-    for line in (folder / 'stdout').read_text().splitlines():
+    for line in STATED.read_text().splitlines():
         name, verdict, first, second = line.split()
-        if (folder / 'data' / name).is_file():
-            file = (folder / 'data' / name).read_bytes()
+        if (DAMAGED / name).is_file():
+            file = (DAMAGED / name).read_bytes()
             stated = f'refused {first} {second}\n'.encode() if verdict == 'refused' else None
             yield Case(f'damaged/{name}', file, b'segment 8\n', stated)
 

@@ -1,17 +1,18 @@
 #!/usr/bin/env python3
-"""Makes the stored files that the programs `damaged`, `describe` and `list_parts` open: the same bytes at every run.
+"""Makes the stored files that are opened by the calls of tests/calls and by the program `list_parts`: the same bytes at every run.
 
-Writes each file of crates/damaged/data, and parts.bsl of the other two. A file is named for what is wrong with it and
+Writes each file of tests/damaged, and parts.bsl of the program. A file is named for what is wrong with it and
 is good in every other way, so that only that fault can refuse it. Where that cannot be, a note beside it says what else
-is wrong. What each must answer stands in crates/damaged/stdout, which is written by hand and not by this script.
+is wrong. What each must answer stands in tests/damaged.answers, which is written by hand and not by this script.
 """
 from pathlib import Path
 
 import usage
 
 TOP = Path(__file__).resolve().parent.parent
-DAMAGED = TOP / 'crates' / 'damaged' / 'data'
-PARTS = [TOP / 'crates' / name / 'data' / 'parts.bsl' for name in ('describe', 'list_parts')]
+DAMAGED = TOP / 'tests' / 'damaged'
+STATED = TOP / 'tests' / 'damaged.answers'
+PARTS = TOP / 'crates' / 'list_parts' / 'data' / 'parts.bsl'
 
 MARK = bytes([0x42, 0x53, 0x4C, 0x31])
 
@@ -177,9 +178,8 @@ def main() -> None:
     for group in groups:
         for name, file in group.items():
             (DAMAGED / name).write_bytes(file)
-    for path in PARTS:
-        path.parent.mkdir(parents=True, exist_ok=True)
-        path.write_bytes(TEN_ROWS)
+    PARTS.parent.mkdir(parents=True, exist_ok=True)
+    PARTS.write_bytes(TEN_ROWS)
 
 
 if __name__ == '__main__':

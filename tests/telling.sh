@@ -17,12 +17,19 @@ told() {
     return "$status"
 }
 
-# NAME...: these crates and those that they stand on, which crates.txt has above them; every crate where none is named.
+# NAME...: these crates and those that they stand on, by crates.txt; every crate where none is named.
 crates_of() {
-    tac crates.txt | awk -F: -v wanted=" $* " '
-        BEGIN { all = wanted ~ /^ *$/ }
+    awk -F: -v wanted="$*" '
         { sub(/#.*/, "") }
-        NF == 2 && (all || index(wanted, " " $1 " ")) { print $1; wanted = wanted $2 " " }'
+        NF == 2 { stands[$1] = $2; every = every " " $1 }
+        END {
+            last = split(wanted ~ /^ *$/ ? every : wanted, crates, " ")
+            for (at = 1; at <= last; at++) if (crates[at] in stands && !told[crates[at]]++) {
+                print crates[at]
+                more = split(stands[crates[at]], below, " ")
+                for (i = 1; i <= more; i++) crates[++last] = below[i]
+            }
+        }' crates.txt
 }
 
 # NAME...: tells of these crates. Where rt has been silent for a second, it is looked up what it has begun. Lines are read by bash: awk may

@@ -1,2 +1,0 @@
--- The laws of the counts.
-pub mod Counting

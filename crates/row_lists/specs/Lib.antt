@@ -1,4 +1,0 @@
--- What the calls come to.
-pub mod Replies
-pub mod Digests
-pub mod Tallies

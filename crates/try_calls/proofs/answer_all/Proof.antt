@@ -1,0 +1,50 @@
+-- `try_calls::answer_all` goes from line to line: each has a byte at least. Assumes nothing.
+use Prim.Native.Nat.{_-_, _≤_}
+use mathlib.Core.Path.{_≡_}
+use native.Mathlib.Omega.{arith}
+use lib.ListN.{length}
+use Rattle.try_calls.proofs.Requests.{rest-length}
+use borrow.Author.Needs.{needs}
+use Rattle.try_calls.proofs.answer_all.Statement.{statement}
+use Rattle.try_calls.proofs.answer_all.Tie as tie
+
+abbrev Inv-loop : tie.InvT-loop
+Inv-loop requests numbers₀ at₀ lines₀ numbers at lines = (at ≤ length requests) × (lines ≤ at) × (length numbers ≡ length numbers₀)
+
+abbrev μ-loop : tie.MeasureT-loop
+μ-loop requests numbers₀ at₀ lines₀ numbers at lines = length requests - at
+
+add-next : tie.Need-add-next Inv-loop μ-loop
+add-next c = omega (arith, c .behind .ensures .1 .0 .0, rest-length (c .before .before .before .before .before .before .args .requests .now) (c .before .before .before .loop .at))
+
+part-answer-end : tie.Need-part-answer-end Inv-loop μ-loop
+part-answer-end c = omega (arith, c .behind .ensures .1 .0 .0, rest-length (c .before .before .before .before .before .before .args .requests .now) (c .before .before .before .loop .at))
+
+loop-less : tie.Need-loop-less Inv-loop μ-loop
+loop-less c = omega (arith, c .before .before .before .before .before .behind .ensures .1 .0 .0, rest-length (c .before .before .before .before .before .before .before .before .before .before .before .args .requests .now) (c .before .before .before .before .before .before .before .before .loop .at), c .before .before .before .before .before .behind .ensures .1 .1 (rw (rest-length (c .before .before .before .before .before .before .before .before .before .before .before .args .requests .now) (c .before .before .before .before .before .before .before .before .loop .at)) (omega arith)))
+
+loop-again : tie.Need-loop-again Inv-loop μ-loop
+loop-again c = (omega (arith, c .before .before .before .before .before .behind .ensures .1 .0 .0, rest-length (c .before .before .before .before .before .before .before .before .before .before .before .args .requests .now) (c .before .before .before .before .before .before .before .before .loop .at)), omega (arith, c .before .before .before .before .before .behind .ensures .1 .0 .0, rest-length (c .before .before .before .before .before .before .before .before .before .before .before .args .requests .now) (c .before .before .before .before .before .before .before .before .loop .at), c .before .before .before .before .before .behind .ensures .1 .1 (rw (rest-length (c .before .before .before .before .before .before .before .before .before .before .before .args .requests .now) (c .before .before .before .before .before .before .before .before .loop .at)) (omega arith))), search needs)
+
+pub answer-all-spec : {M : Type 1} → statement M
+answer-all-spec =
+    tie.close
+    (tie.spec
+    Inv-loop
+    μ-loop
+    (λ c. search needs)
+    (λ c. search needs)
+    (λ c. search needs)
+    (λ c. search needs)
+    (λ c κs. search needs)
+    add-next
+    (λ c. search needs)
+    (λ c. search needs)
+    part-answer-end
+    (λ c κs. search needs)
+    (λ c. search needs)
+    loop-less
+    loop-again
+    (λ c κs. search needs)
+    (λ c. search needs)
+    (λ c. search needs))

@@ -1,0 +1,30 @@
+-- `try_calls::calls::say_bytes` reads each element where it stands. Assumes nothing.
+use Prim.Native.Nat.{_-_}
+use mathlib.Core.Path.{_≡_}
+use lib.ListN.{length}
+use borrow.Author.Needs.{needs}
+use Rattle.try_calls.proofs.calls.say_bytes.Statement.{statement}
+use Rattle.try_calls.proofs.calls.say_bytes.Tie as tie
+
+abbrev Inv-loop : tie.InvT-loop
+Inv-loop out i₀ i-end i = (i-end ≡ length out)
+
+abbrev μ-loop : tie.MeasureT-loop
+μ-loop out i₀ i-end i = i-end - i
+
+pub say-bytes-spec : {M : Type 1} → statement M
+say-bytes-spec =
+    tie.close
+    (tie.spec
+    Inv-loop
+    μ-loop
+    (λ c κs. search needs)
+    (λ c. search needs)
+    (λ c. search needs)
+    (λ c κs. search needs)
+    (λ c κs. search needs)
+    (λ c. search needs)
+    (λ c. search needs)
+    (λ c. search needs)
+    (λ c κs. search needs)
+    (λ c. search needs))

@@ -1,0 +1,37 @@
+-- `try_calls::reading::bytes_at` meets its contract: all elements were copied, or none counts. Assumes nothing.
+use mathlib.Core.Path.{_≡_, refl, sym, _∙_}
+use native.Mathlib.Omega.{arith}
+use borrow.Author.Tests.{lt-ltb, le-ltb}
+use lib.ListN.{length}
+use Rattle.try_calls.proofs.Requests.{counted, whole-slice}
+use borrow.Author.Needs.{needs}
+use Rattle.try_calls.proofs.reading.bytes_at.Statement.{statement}
+use Rattle.try_calls.proofs.reading.bytes_at.Tie as tie
+
+returns : tie.Need-returns
+returns c =
+    let whole = whole-slice 255 (length (c .before .before .before .before .before .before .before .before .before .args .out .now)) (c .before .before .before .before .before .before .before .before .before .args .numbers .now) (c .before .before .before .before .before .before .before .before .before .args .at) (c .before .before .before .before .before .before .part-at .result) (c .before .before .before .copy-bytes .result) (c .before .before .before .before .before .before .part-at .ensures .0) (c .before .before .before .copy-bytes .ensures .0) in
+    (sym (whole ∙ rw (lt-ltb _ _ (c .if1 .taken)) refl), (refl, (omega arith, refl)))
+
+returns-2 : tie.Need-returns-2
+returns-2 c =
+    let whole = whole-slice 255 (length (c .before .before .before .before .before .before .before .before .before .args .out .now)) (c .before .before .before .before .before .before .before .before .before .args .numbers .now) (c .before .before .before .before .before .before .before .before .before .args .at) (c .before .before .before .before .before .before .part-at .result) (c .before .before .before .copy-bytes .result) (c .before .before .before .before .before .before .part-at .ensures .0) (c .before .before .before .copy-bytes .ensures .0) in (
+      sym (whole ∙ rw (le-ltb _ _ (c .if1 .left)) refl),
+      (rw (← c .before .before .before .before .before .before .part-at .ensures .0) (c .before .before .before .copy-bytes .ensures .1 .0), counted _ _ (c .before .before .before .copy-bytes .ensures .1 .1 .1)),
+    )
+
+pub bytes-at-spec : {M : Type 1} → statement M
+bytes-at-spec =
+    tie.close
+    (tie.spec
+    (λ c κs. search needs)
+    (λ c. search needs)
+    (λ c. search needs)
+    (λ c. search needs)
+    (λ c. search needs)
+    (λ c κs. search needs)
+    (λ c. search needs)
+    (λ c. search needs)
+    returns
+    (λ c. search needs)
+    returns-2)

@@ -1,0 +1,38 @@
+-- `try_calls::reading::part_at` meets its contract. Assumes nothing.
+use Prim.Native.Nat.{_+_}
+use mathlib.Core.Path.{refl}
+use native.Mathlib.Omega.{arith}
+use lib.ListN.{length, getD}
+use borrow.Author.Tests.{lt-ltb, le-ltb}
+use Rattle.try_calls.specs.Requests.{partAt}
+use borrow.Author.Needs.{needs}
+use Rattle.try_calls.proofs.reading.part_at.Statement.{statement}
+use Rattle.try_calls.proofs.reading.part_at.Tie as tie
+
+returns : tie.Need-returns
+unfolding partAt
+returns c = (rw (le-ltb (c .before .args .at + getD (c .before .args .numbers .now) (c .before .args .at) 0) (length (c .before .args .numbers .now)) (omega arith)) refl, (omega arith, omega arith))
+
+returns-2 : tie.Need-returns-2
+unfolding partAt
+returns-2 c = (rw (le-ltb (c .before .before .before .args .at + getD (c .before .before .before .args .numbers .now) (c .before .before .before .args .at) 0) (length (c .before .before .before .args .numbers .now)) (omega arith)) refl, (omega arith, omega arith))
+
+returns-3 : tie.Need-returns-3
+unfolding partAt
+returns-3 c = (rw (lt-ltb (c .before .before .before .args .at + getD (c .before .before .before .args .numbers .now) (c .before .before .before .args .at) 0) (length (c .before .before .before .args .numbers .now)) (omega arith)) refl, (omega arith, omega arith))
+
+pub part-at-spec : {M : Type 1} → statement M
+part-at-spec =
+    tie.close
+    (tie.spec
+    returns
+    (λ c. search needs)
+    (λ c. search needs)
+    (λ c. search needs)
+    returns-2
+    (λ c. search needs)
+    (λ c. search needs)
+    (λ c. search needs)
+    (λ c. search needs)
+    (λ c. search needs)
+    returns-3)

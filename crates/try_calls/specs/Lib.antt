@@ -1,0 +1,2 @@
+-- How a request is read.
+pub mod Requests
