@@ -15,16 +15,34 @@ abbrev μ-loop : tie.MeasureT-loop
 μ-loop requests numbers₀ at₀ lines₀ numbers at lines = length requests - at
 
 add-next : tie.Need-add-next Inv-loop μ-loop
-add-next c = omega (arith, c .behind .ensures .1 .0 .0, rest-length (c .before .before .before .before .before .before .args .requests .now) (c .before .before .before .loop .at))
+add-next c =
+    let turn = c .before .before .before .loop in
+    let rest = rest-length (c .before .before .before .before .before .before .args .requests .now) (turn .at) in
+    omega (arith, c .behind .ensures .1 .0 .0, rest)
 
 part-answer-end : tie.Need-part-answer-end Inv-loop μ-loop
-part-answer-end c = omega (arith, c .behind .ensures .1 .0 .0, rest-length (c .before .before .before .before .before .before .args .requests .now) (c .before .before .before .loop .at))
+part-answer-end c =
+    let turn = c .before .before .before .loop in
+    let rest = rest-length (c .before .before .before .before .before .before .args .requests .now) (turn .at) in
+    omega (arith, c .behind .ensures .1 .0 .0, rest)
 
 loop-less : tie.Need-loop-less Inv-loop μ-loop
-loop-less c = omega (arith, c .before .before .before .before .before .behind .ensures .1 .0 .0, rest-length (c .before .before .before .before .before .before .before .before .before .before .before .args .requests .now) (c .before .before .before .before .before .before .before .before .loop .at), c .before .before .before .before .before .behind .ensures .1 .1 (rw (rest-length (c .before .before .before .before .before .before .before .before .before .before .before .args .requests .now) (c .before .before .before .before .before .before .before .before .loop .at)) (omega arith)))
+loop-less c =
+    let turn = c .before .before .before .before .before .before .before .before .loop in
+    let line = c .before .before .before .before .before .behind .ensures .1 in
+    let rest =
+    rest-length (c .before .before .before .before .before .before .before .before .before .before .before .args .requests .now) (turn .at) in
+    let some = line .1 (rw rest (omega arith)) in
+    omega (arith, line .0 .0, rest, some)
 
 loop-again : tie.Need-loop-again Inv-loop μ-loop
-loop-again c = (omega (arith, c .before .before .before .before .before .behind .ensures .1 .0 .0, rest-length (c .before .before .before .before .before .before .before .before .before .before .before .args .requests .now) (c .before .before .before .before .before .before .before .before .loop .at)), omega (arith, c .before .before .before .before .before .behind .ensures .1 .0 .0, rest-length (c .before .before .before .before .before .before .before .before .before .before .before .args .requests .now) (c .before .before .before .before .before .before .before .before .loop .at), c .before .before .before .before .before .behind .ensures .1 .1 (rw (rest-length (c .before .before .before .before .before .before .before .before .before .before .before .args .requests .now) (c .before .before .before .before .before .before .before .before .loop .at)) (omega arith))), search needs)
+loop-again c =
+    let turn = c .before .before .before .before .before .before .before .before .loop in
+    let line = c .before .before .before .before .before .behind .ensures .1 in
+    let rest =
+    rest-length (c .before .before .before .before .before .before .before .before .before .before .before .args .requests .now) (turn .at) in
+    let some = line .1 (rw rest (omega arith)) in
+    (omega (arith, line .0 .0, rest), omega (arith, rest, some), search needs)
 
 pub answer-all-spec : {M : Type 1} → statement M
 answer-all-spec =

@@ -37,7 +37,8 @@ unfolding behindOf
 returns-2 c =
     let turn = c .before .loop in
     let bytes = c .before .before .args .bytes .now in
-    let none : behindOf (c .before .before .args .byte) (drop (turn .i) bytes) ≡ 0 = rw (drop-of-length-le bytes {i = turn .i} (omega arith)) refl in
+    let none : behindOf (c .before .before .args .byte) (drop (turn .i) bytes) ≡ 0 =
+    rw (drop-of-length-le bytes {i = turn .i} (omega arith)) refl in
     (omega (arith, turn .inv .1, none), (counted _ _ (omega arith), λ some. omega arith))
 
 pub behind-spec : {M : Type 1} → statement M

@@ -10,14 +10,20 @@ use Rattle.try_calls.proofs.reading.bytes_at.Tie as tie
 
 returns : tie.Need-returns
 returns c =
-    let whole = whole-slice 255 (length (c .before .before .before .before .before .before .before .before .before .args .out .now)) (c .before .before .before .before .before .before .before .before .before .args .numbers .now) (c .before .before .before .before .before .before .before .before .before .args .at) (c .before .before .before .before .before .before .part-at .result) (c .before .before .before .copy-bytes .result) (c .before .before .before .before .before .before .part-at .ensures .0) (c .before .before .before .copy-bytes .ensures .0) in
-    (sym (whole ∙ rw (lt-ltb _ _ (c .if1 .taken)) refl), (refl, (omega arith, refl)))
+    let args = c .before .before .before .before .before .before .before .before .before .args in
+    let part = c .before .before .before .before .before .before .part-at in
+    let copy = c .before .before .before .copy-bytes in
+    let whole = whole-slice 255 (length (args .out .now)) (args .numbers .now) (args .at) (part .result) (copy .result) in
+    (sym (whole (part .ensures .0) (copy .ensures .0) ∙ rw (lt-ltb _ _ (c .if1 .taken)) refl), (refl, (omega arith, refl)))
 
 returns-2 : tie.Need-returns-2
 returns-2 c =
-    let whole = whole-slice 255 (length (c .before .before .before .before .before .before .before .before .before .args .out .now)) (c .before .before .before .before .before .before .before .before .before .args .numbers .now) (c .before .before .before .before .before .before .before .before .before .args .at) (c .before .before .before .before .before .before .part-at .result) (c .before .before .before .copy-bytes .result) (c .before .before .before .before .before .before .part-at .ensures .0) (c .before .before .before .copy-bytes .ensures .0) in (
-      sym (whole ∙ rw (le-ltb _ _ (c .if1 .left)) refl),
-      (rw (← c .before .before .before .before .before .before .part-at .ensures .0) (c .before .before .before .copy-bytes .ensures .1 .0), counted _ _ (c .before .before .before .copy-bytes .ensures .1 .1 .1)),
+    let args = c .before .before .before .before .before .before .before .before .before .args in
+    let part = c .before .before .before .before .before .before .part-at in
+    let copy = c .before .before .before .copy-bytes in
+    let whole = whole-slice 255 (length (args .out .now)) (args .numbers .now) (args .at) (part .result) (copy .result) in (
+      sym (whole (part .ensures .0) (copy .ensures .0) ∙ rw (le-ltb _ _ (c .if1 .left)) refl),
+      (rw (← part .ensures .0) (copy .ensures .1 .0), counted _ _ (copy .ensures .1 .1 .1)),
     )
 
 pub bytes-at-spec : {M : Type 1} → statement M

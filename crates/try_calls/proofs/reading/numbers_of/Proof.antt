@@ -1,4 +1,5 @@
--- `try_calls::reading::numbers_of` meets its contract: the numbers are those that stand in the output, and those that the rest of the text holds. Assumes nothing.
+-- `try_calls::reading::numbers_of` meets its contract: the numbers are those in the output and
+-- those that the rest of the text holds. Assumes nothing.
 use Prim.Native.Nat.{ℕ, _+_, _-_, _*_, _≤_, _<_}
 use mathlib.Core.Path.{_≡_, refl, sym, ap, _∙_}
 use native.Mathlib.Omega.{arith}
@@ -13,7 +14,9 @@ use Rattle.try_calls.proofs.reading.numbers_of.Statement.{statement}
 use Rattle.try_calls.proofs.reading.numbers_of.Tie as tie
 
 abbrev Inv-loop : tie.InvT-loop
-Inv-loop text out₀ count₀ value₀ inside₀ i₀ out count value inside i = (i ≤ length text) × (count ≤ length out) × (length out ≡ length out₀) × (numbersIn text ≡ take count out ++ numbersAfter inside value (drop i text))
+Inv-loop text out₀ count₀ value₀ inside₀ i₀ out count value inside i =
+    (i ≤ length text) × (count ≤ length out) × (length out ≡ length out₀)
+    × (numbersIn text ≡ take count out ++ numbersAfter inside value (drop i text))
 
 abbrev μ-loop : tie.MeasureT-loop
 μ-loop text out₀ count₀ value₀ inside₀ i₀ out count value inside i = length text - i
@@ -22,16 +25,22 @@ loop-holds : tie.Need-loop-holds Inv-loop μ-loop
 loop-holds c = (omega arith, omega arith, refl, refl)
 
 sub-digit : tie.Need-sub-digit Inv-loop μ-loop
-sub-digit c = omega (arith, digit-from (getD (c .before .before .before .before .before .before .before .before .args .text .now) (c .before .before .before .before .before .loop .i) 0) (sym (c .before .before .is-digit .ensures) ∙ c .before .if1 .taken))
+sub-digit c =
+    let text = c .before .before .before .before .before .before .before .before .args .text .now in
+    let digit = sym (c .before .before .is-digit .ensures) ∙ c .before .if1 .taken in
+    omega (arith, digit-from (getD text (c .before .before .before .before .before .loop .i) 0) digit)
 
 returns : tie.Need-returns Inv-loop μ-loop
 returns c =
     let turn = c .before .before .before .before .before .before .loop in
     let text = c .before .before .before .before .before .before .before .before .before .args .text .now in
     let front = take (turn .count) (turn .out) in
-    let digit : isDigit (getD text (turn .i) 0) ≡ true = sym (c .before .before .before .is-digit .ensures) ∙ c .before .before .if1 .taken in
-    let all : numbersIn text ≡ front ++ (numbersAfter true (turn .value * 10 + (getD text (turn .i) 0 - 48)) (drop (turn .i + 1) text)) = turn .inv .3 ∙ ap (λ (l : List ℕ). front ++ l) (grown text (turn .i) (omega arith) (turn .inside) (turn .value) digit) in
-    let found = large-stays (drop (turn .i + 1) text) (turn .value * 10 + (getD text (turn .i) 0 - 48)) (omega (arith, c .before .wide .ensures .0)) in
+    let digit : isDigit (getD text (turn .i) 0) ≡ true =
+    sym (c .before .before .before .is-digit .ensures) ∙ c .before .before .if1 .taken in
+    let all : numbersIn text ≡ front ++ (numbersAfter true (turn .value * 10 + (getD text (turn .i) 0 - 48)) (drop (turn .i + 1) text)) =
+    turn .inv .3 ∙ ap (λ (l : List ℕ). front ++ l) (grown text (turn .i) (omega arith) (turn .inside) (turn .value) digit) in
+    let found =
+    large-stays (drop (turn .i + 1) text) (turn .value * 10 + (getD text (turn .i) 0 - 48)) (omega (arith, c .before .wide .ensures .0)) in
     (large (found .0) (rw all (member-behind front (found .1))) (found .2), counted _ _ (turn .inv .1))
 
 loop-again : tie.Need-loop-again Inv-loop μ-loop
@@ -39,8 +48,10 @@ loop-again c =
     let turn = c .before .before .before .before .before .before .loop in
     let text = c .before .before .before .before .before .before .before .before .before .args .text .now in
     let front = take (turn .count) (turn .out) in
-    let digit : isDigit (getD text (turn .i) 0) ≡ true = sym (c .before .before .before .is-digit .ensures) ∙ c .before .before .if1 .taken in
-    let all : numbersIn text ≡ front ++ (numbersAfter true (turn .value * 10 + (getD text (turn .i) 0 - 48)) (drop (turn .i + 1) text)) = turn .inv .3 ∙ ap (λ (l : List ℕ). front ++ l) (grown text (turn .i) (omega arith) (turn .inside) (turn .value) digit) in
+    let digit : isDigit (getD text (turn .i) 0) ≡ true =
+    sym (c .before .before .before .is-digit .ensures) ∙ c .before .before .if1 .taken in
+    let all : numbersIn text ≡ front ++ (numbersAfter true (turn .value * 10 + (getD text (turn .i) 0 - 48)) (drop (turn .i + 1) text)) =
+    turn .inv .3 ∙ ap (λ (l : List ℕ). front ++ l) (grown text (turn .i) (omega arith) (turn .inside) (turn .value) digit) in
     (omega arith, turn .inv .1, turn .inv .2, rw (c .before .wide .ensures .0) all)
 
 returns-2 : tie.Need-returns-2 Inv-loop μ-loop
@@ -48,8 +59,10 @@ returns-2 c =
     let turn = c .before .before .before .before .before .before .loop in
     let text = c .before .before .before .before .before .before .before .before .before .args .text .now in
     let front = take (turn .count) (turn .out) in
-    let other : isDigit (getD text (turn .i) 0) ≡ false = sym (c .before .before .before .is-digit .ensures) ∙ c .before .before .if1 .left in
-    let all : numbersIn text ≡ front ++ (turn .value ∷ numbersAfter false 0 (drop (turn .i + 1) text)) = turn .inv .3 ∙ ap (λ (l : List ℕ). front ++ l) (rw (c .before .if3 .taken) (ended text (turn .i) (omega arith) (turn .value) other)) in
+    let other : isDigit (getD text (turn .i) 0) ≡ false =
+    sym (c .before .before .before .is-digit .ensures) ∙ c .before .before .if1 .left in
+    let all : numbersIn text ≡ front ++ (turn .value ∷ numbersAfter false 0 (drop (turn .i + 1) text)) =
+    turn .inv .3 ∙ ap (λ (l : List ℕ). front ++ l) (rw (c .before .if3 .taken) (ended text (turn .i) (omega arith) (turn .value) other)) in
     let many-more = longer _ front _ _ all in
     (many (omega (arith, many-more, length-take-le (turn .count) (turn .out) (turn .inv .1), turn .inv .2)), counted _ _ (turn .inv .1))
 
@@ -58,24 +71,35 @@ loop-again-2 c =
     let turn = c .before .before .before .before .before .before .loop in
     let text = c .before .before .before .before .before .before .before .before .before .args .text .now in
     let front = take (turn .count) (turn .out) in
-    let other : isDigit (getD text (turn .i) 0) ≡ false = sym (c .before .before .before .is-digit .ensures) ∙ c .before .before .if1 .left in
-    let all : numbersIn text ≡ front ++ (turn .value ∷ numbersAfter false 0 (drop (turn .i + 1) text)) = turn .inv .3 ∙ ap (λ (l : List ℕ). front ++ l) (rw (c .before .if3 .taken) (ended text (turn .i) (omega arith) (turn .value) other)) in
-    (omega arith, simp length-set (omega arith), simp length-set (turn .inv .2), all ∙ sym (pushed (turn .out) (turn .count) (turn .value) _ (omega arith)))
+    let other : isDigit (getD text (turn .i) 0) ≡ false =
+    sym (c .before .before .before .is-digit .ensures) ∙ c .before .before .if1 .left in
+    let all : numbersIn text ≡ front ++ (turn .value ∷ numbersAfter false 0 (drop (turn .i + 1) text)) =
+    turn .inv .3 ∙ ap (λ (l : List ℕ). front ++ l) (rw (c .before .if3 .taken) (ended text (turn .i) (omega arith) (turn .value) other)) in (
+      omega arith,
+      simp length-set (omega arith),
+      simp length-set (turn .inv .2),
+      all ∙ sym (pushed (turn .out) (turn .count) (turn .value) _ (omega arith)),
+    )
 
 loop-again-3 : tie.Need-loop-again-3 Inv-loop μ-loop
 loop-again-3 c =
     let turn = c .before .before .before .before .before .loop in
     let text = c .before .before .before .before .before .before .before .before .args .text .now in
     let front = take (turn .count) (turn .out) in
-    let other : isDigit (getD text (turn .i) 0) ≡ false = sym (c .before .before .is-digit .ensures) ∙ c .before .if1 .left in
-    (omega arith, turn .inv .1, turn .inv .2, turn .inv .3 ∙ ap (λ (l : List ℕ). front ++ l) (rw (c .if3 .left) (skipped text (turn .i) (omega arith) (turn .value) other)))
+    let other : isDigit (getD text (turn .i) 0) ≡ false = sym (c .before .before .is-digit .ensures) ∙ c .before .if1 .left in (
+      omega arith,
+      turn .inv .1,
+      turn .inv .2,
+      turn .inv .3 ∙ ap (λ (l : List ℕ). front ++ l) (rw (c .if3 .left) (skipped text (turn .i) (omega arith) (turn .value) other)),
+    )
 
 returns-3 : tie.Need-returns-3 Inv-loop μ-loop
 returns-3 c =
     let turn = c .before .before .before .loop in
     let text = c .before .before .before .before .before .before .args .text .now in
     let front = take (turn .count) (turn .out) in
-    let all : numbersIn text ≡ front ++ (turn .value ∷ []) = turn .inv .3 ∙ ap (λ (l : List ℕ). front ++ l) (rw (c .before .if5 .taken) (last-ended text (turn .i) (turn .value) (omega arith))) in
+    let all : numbersIn text ≡ front ++ (turn .value ∷ []) =
+    turn .inv .3 ∙ ap (λ (l : List ℕ). front ++ l) (rw (c .before .if5 .taken) (last-ended text (turn .i) (turn .value) (omega arith))) in
     let many-more = longer _ front _ _ all in
     (many (omega (arith, many-more, length-take-le (turn .count) (turn .out) (turn .inv .1), turn .inv .2)), counted _ _ (turn .inv .1))
 
@@ -84,15 +108,19 @@ returns-4 c =
     let turn = c .before .before .before .loop in
     let text = c .before .before .before .before .before .before .args .text .now in
     let front = take (turn .count) (turn .out) in
-    let all : numbersIn text ≡ front ++ (turn .value ∷ []) = turn .inv .3 ∙ ap (λ (l : List ℕ). front ++ l) (rw (c .before .if5 .taken) (last-ended text (turn .i) (turn .value) (omega arith))) in
-    (all ∙ sym (pushed (turn .out) (turn .count) (turn .value) [] (omega arith)) ∙ append-nil _, counted _ _ (simp length-set (omega arith)))
+    let all : numbersIn text ≡ front ++ (turn .value ∷ []) =
+    turn .inv .3 ∙ ap (λ (l : List ℕ). front ++ l) (rw (c .before .if5 .taken) (last-ended text (turn .i) (turn .value) (omega arith))) in (
+      all ∙ sym (pushed (turn .out) (turn .count) (turn .value) [] (omega arith)) ∙ append-nil _,
+      counted _ _ (simp length-set (omega arith)),
+    )
 
 returns-5 : tie.Need-returns-5 Inv-loop μ-loop
 returns-5 c =
     let turn = c .before .before .loop in
     let text = c .before .before .before .before .before .args .text .now in
     let front = take (turn .count) (turn .out) in
-    let all : numbersIn text ≡ front ++ [] = turn .inv .3 ∙ ap (λ (l : List ℕ). front ++ l) (rw (c .if5 .left) (none-begun text (turn .i) (turn .value) (omega arith))) in
+    let all : numbersIn text ≡ front ++ [] =
+    turn .inv .3 ∙ ap (λ (l : List ℕ). front ++ l) (rw (c .if5 .left) (none-begun text (turn .i) (turn .value) (omega arith))) in
     (all ∙ append-nil front, counted _ _ (turn .inv .1))
 
 pub numbers-of-spec : {M : Type 1} → statement M

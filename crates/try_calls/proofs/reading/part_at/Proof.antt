@@ -11,15 +11,24 @@ use Rattle.try_calls.proofs.reading.part_at.Tie as tie
 
 returns : tie.Need-returns
 unfolding partAt
-returns c = (rw (le-ltb (c .before .args .at + getD (c .before .args .numbers .now) (c .before .args .at) 0) (length (c .before .args .numbers .now)) (omega arith)) refl, (omega arith, omega arith))
+returns c =
+    let args = c .before .args in
+    let numbers = args .numbers .now in
+    (rw (le-ltb (args .at + getD numbers (args .at) 0) (length numbers) (omega arith)) refl, (omega arith, omega arith))
 
 returns-2 : tie.Need-returns-2
 unfolding partAt
-returns-2 c = (rw (le-ltb (c .before .before .before .args .at + getD (c .before .before .before .args .numbers .now) (c .before .before .before .args .at) 0) (length (c .before .before .before .args .numbers .now)) (omega arith)) refl, (omega arith, omega arith))
+returns-2 c =
+    let args = c .before .before .before .args in
+    let numbers = args .numbers .now in
+    (rw (le-ltb (args .at + getD numbers (args .at) 0) (length numbers) (omega arith)) refl, (omega arith, omega arith))
 
 returns-3 : tie.Need-returns-3
 unfolding partAt
-returns-3 c = (rw (lt-ltb (c .before .before .before .args .at + getD (c .before .before .before .args .numbers .now) (c .before .before .before .args .at) 0) (length (c .before .before .before .args .numbers .now)) (omega arith)) refl, (omega arith, omega arith))
+returns-3 c =
+    let args = c .before .before .before .args in
+    let numbers = args .numbers .now in
+    (rw (lt-ltb (args .at + getD numbers (args .at) 0) (length numbers) (omega arith)) refl, (omega arith, omega arith))
 
 pub part-at-spec : {M : Type 1} → statement M
 part-at-spec =
