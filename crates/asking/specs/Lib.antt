@@ -2,4 +2,5 @@
 pub mod AtFile
 pub mod Sizes
 pub mod Refusals
+pub mod Verdicts
 pub mod Judged

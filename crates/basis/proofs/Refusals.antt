@@ -6,15 +6,18 @@
 --   each-fails           line by line
 --   first-of-earlier     of two tables in a row, what answers in the first answers
 --   first-of-later       and where nothing does, what answers in the second
+--   neither-answers      of two tables in a row, where none answers, none does in either
 --   Past                 a table answers as what is left of it does: it has been walked through so far
 --   at-first             before its first line
 --   passes, stops        a walk goes past a line that fails, and stops at one that holds
+--   passes-all           a walk goes past a table in which none answers
+--   stops-within         and stops at the line that answers in it
 --   ends                 past the last line, none answers
 use mathlib.Core.Path.{_≡_, refl, ap, sym, _∙_}
 use mathlib.Core.Logic.{_⊎_, inl, inr}
 use mathlib.Core.List.{List, [], _∷_, _++_}
 use mathlib.Core.Bool.{true, false}
-use mathlib.Core.Option.{none, some, Option·some-injective, Option·none-ne-some, Option·some-ne-none}
+use mathlib.Core.Option.{Option, none, some, Option·some-injective, Option·none-ne-some, Option·some-ne-none}
 use Rattle.basis.specs.Lists.{any}
 use Rattle.basis.specs.Refusals.{Line, firstLine}
 use Rattle.basis.proofs.Truth.{either, neither, nor, hit, missed}
@@ -96,6 +99,13 @@ first-of-later (l ∷ lines) more e = go (either (l .holds)) (first-of-later lin
     go (inl h) rest = absurd (Option·some-ne-none l (sym (answers l lines h) ∙ e))
     go (inr h) rest = passed-over l (lines ++ more) h ∙ rest (sym (passed-over l lines h) ∙ e)
 
+pub neither-answers : (lines more : List Line) → firstLine (lines ++ more) ≡ none → (firstLine lines ≡ none) × (firstLine more ≡ none)
+neither-answers lines more e = go (firstLine lines) refl
+  where
+    go : (first : Option Line) → firstLine lines ≡ first → (firstLine lines ≡ none) × (firstLine more ≡ none)
+    go none f = (f, sym (first-of-later lines more f) ∙ e)
+    go (some line) f = absurd (Option·some-ne-none line (sym (first-of-earlier lines more line f) ∙ e))
+
 -- a table is walked through line by line: it answers as what is left of it does
 pub record Past (lines left : List Line) : Type 0 where
   pub alike : firstLine lines ≡ firstLine left
@@ -108,6 +118,13 @@ passes {left = left} {line = line} past fails = record { alike = past .alike ∙
 
 pub stops : {lines left : List Line} {line : Line} → Past lines (line ∷ left) → line .holds ≡ true → firstLine lines ≡ some line
 stops {left = left} {line = line} past holds = past .alike ∙ answers line left holds
+
+pub passes-all : {all : List Line} (lines left : List Line) → Past all (lines ++ left) → firstLine lines ≡ none → Past all left
+passes-all lines left past none-answers = record { alike = past .alike ∙ first-of-later lines left none-answers }
+
+pub stops-within : {all : List Line} (lines left : List Line) → Past all (lines ++ left) → (line : Line) → firstLine lines ≡ some line →
+    firstLine all ≡ some line
+stops-within lines left past line answered = past .alike ∙ first-of-earlier lines left line answered
 
 pub ends : {lines : List Line} → Past lines [] → firstLine lines ≡ none
 ends past = past .alike

@@ -7,6 +7,7 @@
 --     bytes-of-bits           a power of 2 to a multiple of 8 is a power of 256
 --     two-eighths             codes times pads are as many as the slices' numbers
 --     unfit-false, fit-width  a width that is not unfit is between 1 and the widest, and back
+--     below-the-limit         a code that is not too large is below 2^width
 use Prim.Native.Nat.{ℕ, zero, suc, _+_, _-_, _*_, _^_, _≤_, _<_}
 use mathlib.Core.Path.{_≡_, refl, sym, ap, _∙_}
 use mathlib.Core.Bool.{false}
@@ -14,10 +15,10 @@ use native.Mathlib.Nat.{mul-suc, pow-suc, pow-le-pow-right}
 use native.Mathlib.Omega.{arith}
 use lib.Dec.{ltb, eqb, lit<}
 use lib.Pow.{pow-add}
-use borrow.Author.Tests.{ltb-false, eqb-false, le-ltb, ne-eqb}
+use borrow.Author.Tests.{ltb-true, ltb-false, eqb-false, le-ltb, ne-eqb, not-false}
 use Rattle.basis.proofs.Truth.{neither}
 use Rattle.limits.specs.Limits.{widest, mostSlices}
-use Rattle.codes.specs.Width.{unfitWidth, slicesOf, padOf}
+use Rattle.codes.specs.Width.{unfitWidth, slicesOf, padOf, tooLarge}
 
 -- a pad is less than a byte
 pub pad-below-eight : (width : ℕ) → padOf width < 8
@@ -65,3 +66,8 @@ unfit-false width e =
 pub fit-width : (width : ℕ) → 0 < width → width ≤ widest → unfitWidth width ≡ false
 unfolding unfitWidth
 fit-width width some fits = rw (ne-eqb width 0 (omega arith), le-ltb widest width fits)
+
+-- a code that is not too large is below 2^width
+pub below-the-limit : (width code : ℕ) → tooLarge width code ≡ false → code < 2 ^ width
+unfolding tooLarge
+below-the-limit width code fits = ltb-true code (2 ^ width) (not-false _ fits)

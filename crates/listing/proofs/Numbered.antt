@@ -19,7 +19,8 @@ use Rattle.register.specs.Opening.{openLines}
 use Rattle.query.specs.declared.Test.{Test}
 use Rattle.query.specs.declared.Query.{Query}
 use Rattle.query.specs.Tests.{testsOf}
-use Rattle.scan.specs.Refusals.{testLines, ownLines, scanLines}
+use Rattle.asking.specs.Refusals.{testsLines, queryLines, askLines}
+use Rattle.scan.specs.Refusals.{scanLines}
 use Rattle.scan.specs.Answers.{scannedOf}
 use Rattle.scan.proofs.Accepting.{Accepted}
 
@@ -45,17 +46,17 @@ joined-numbered (line ∷ lines) more each others =
     let parts = both (ltb 0 (line .number)) (numbered lines) each in
     both-pass (ltb 0 (line .number)) (numbered (lines ++ more)) (parts .0) (joined-numbered lines more (parts .1) others)
 
-tests-numbered : (file : List ℕ) (place : ℕ) (tests : List Test) → T (numbered (testLines file place tests))
-unfolding testLines
+tests-numbered : (file : List ℕ) (place : ℕ) (tests : List Test) → T (numbered (testsLines file place tests))
+unfolding testsLines
 tests-numbered file place [] = tt
 tests-numbered file place (test ∷ tests) = tests-numbered file (suc place) tests
 
 module _ (file : List ℕ) (size : ℕ) (query : Query) (room : ℕ) where
   scan-numbered : T (numbered (scanLines file size query room))
-  unfolding openLines ownLines
+  unfolding openLines queryLines
   scan-numbered =
-      joined-numbered (openLines file) (ownLines file size query room) tt
-      (joined-numbered (testLines file 0 (testsOf query)) _ (tests-numbered file 0 (testsOf query)) tt)
+      joined-numbered (askLines file size query) _
+      (joined-numbered (openLines file) (queryLines file size query) tt (tests-numbered file 0 (testsOf query))) tt
 
   pub refusal-of-line : (line : Line) → firstLine (scanLines file size query room) ≡ some line →
       scannedOf file size query room .refusal ≡ refusal line

@@ -16,9 +16,9 @@ use Rattle.register.specs.Opening.{openedOf}
 use Rattle.register.proofs.PassedOn.{refusal-passed-on}
 use Rattle.query.specs.declared.Query.{Query}
 use Rattle.text.specs.declared.Asked.{Asked}
+use Rattle.asking.proofs.Outcomes.{refused-file}
 use Rattle.scan.specs.declared.Scanned.{Scanned}
 use Rattle.bits.specs.Bits.{bytesFor}
-use Rattle.scan.specs.Refusals.{ownLines}
 use Rattle.scan.specs.Answers.{leftIn}
 use Rattle.scan.proofs.Accepting.{Accepted}
 use Rattle.lines.proofs.Shapes.{same-rows}

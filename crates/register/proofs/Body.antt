@@ -2,16 +2,21 @@
 --   among-all     the slices before a column, and its own, are among all slices
 --   in-the-body   before the directory
 --   in-the-file   so within the file
+--   byte-as-opened  in the words of the shape that opening tells
 use Prim.Native.Nat.{ℕ, suc, _+_, _*_, _≤_, _<_}
 use native.Mathlib.Omega.{arith}
 use native.Mathlib.Nat.{mul-le-mul-left, mul-add, mul-suc, mul-comm}
+use mathlib.Core.Path.{_≡_}
 use mathlib.Core.List.{List}
 use lib.ListN.{length}
 use Rattle.basis.proofs.Lists.{sum-grows}
 use Rattle.codes.specs.Width.{slicesOf}
 use Rattle.register.specs.Layout.{slicesBefore}
 use Rattle.register.specs.File.{rowsIn, columnsIn, directoryIn, widthIn, offsetIn}
-use Rattle.register.proofs.Fit.{Fit}
+use Rattle.register.specs.declared.Shape.{Shape}
+use Rattle.register.specs.declared.Opened.the-variants.{Register}
+use Rattle.register.specs.Opening.{openedOf}
+use Rattle.register.proofs.Fit.{Fit, opened-is-fit, rows-as-opened, columns-as-opened}
 use Rattle.register.proofs.Directory.{fit-column, one-more-column}
 
 -- so many slices, and a row of one more, are within that many slices and one more
@@ -39,3 +44,11 @@ module _ (file : List ℕ) (fit : Fit file) (column slice row : ℕ) (column-the
 
   pub in-the-file : offsetIn file column + slice * rowsIn file + row < length file
   in-the-file = omega (arith, in-the-body, fit .placed)
+
+pub byte-as-opened : (file : List ℕ) (shape : Shape) → openedOf file ≡ Register shape → (column slice row : ℕ) →
+    column < shape .columns → slice < slicesOf (widthIn file column) → row < shape .rows →
+    offsetIn file column + slice * shape .rows + row < length file
+byte-as-opened file shape opened column slice row column-there slice-there row-there =
+    let same = rows-as-opened file shape opened in
+    let inside : column < columnsIn file = omega (arith, columns-as-opened file shape opened) in
+    rw same (in-the-file file (opened-is-fit file shape opened .0) column slice row inside slice-there (omega (arith, same)))

@@ -1,6 +1,6 @@
 -- The directory entry by entry: cutting one out of the file, and what a fit one says. Assumes nothing.
 --   entry-cut          the eight bytes from where a column's entry stands are its entry
---   judged-by-entry    a column is unfit exactly when its entry is, for where the column is to start
+--   unfit-by-entry    a column is unfit exactly when its entry is, for where the column is to start
 --   fit-column         a fit column has a width from 1 to 32, and starts where it is to start
 --   one-more-column    the slices before the next column
 --   few-bytes          four slices to a column, and the limits, keep the bytes of the body few
@@ -28,10 +28,10 @@ entry-cut file from column at fits =
     let eight : from + entryBytes - from ≡ entryBytes = omega arith in
     (rw (eight, at), rw (eight, length-take, length-drop) (omega arith))
 
-pub judged-by-entry : (file entry : List ℕ) (rows slices column : ℕ) → entry ≡ entryIn file column → rows ≡ rowsIn file →
+pub unfit-by-entry : (file entry : List ℕ) (rows slices column : ℕ) → entry ≡ entryIn file column → rows ≡ rowsIn file →
     slices ≡ slicesBefore (widthIn file) column → unfitEntry entry (rows * slices) ≡ unfitColumn file column
 unfolding unfitColumn
-judged-by-entry file entry rows slices column here same before = rw (here, same, before)
+unfit-by-entry file entry rows slices column here same before = rw (here, same, before)
 
 -- what a fit column is known by
 pub record FitColumn (file : List ℕ) (column : ℕ) : Type 0 where

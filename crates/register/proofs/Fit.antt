@@ -1,8 +1,11 @@
 -- What is known of a file that opened: every condition of the table has been tried and does not hold. Assumes nothing.
 --   Fit                 the facts, in plain numbers
+--   register-told       an answer by a table that tells of a register comes where no line answers, and tells the shape
 --   opened-passes       where a file opens, no line of the table answers
 --   opened-is-fit       a file that opens has them
 --   rows-as-opened, columns-as-opened    the shape that opening tells is the file's
+--   few-rows-as-opened  and its rows are not too many
+--   width-as-opened     a column of it has a width between 1 and the widest
 --   fit-is-opened       a file that has them opens
 use Prim.Native.Nat.{ℕ, _+_, _*_, _≤_, _<_}
 use native.Mathlib.Omega.{arith}
@@ -19,11 +22,12 @@ use Rattle.basis.proofs.Refusals.{none-when-accepted, each-fails}
 use Rattle.basis.proofs.Places.{none-before-first, first-is-none}
 use Rattle.register.specs.declared.Shape.{Shape}
 use Rattle.register.specs.declared.Opened.the-variants.{Register, Refused}
-use Rattle.limits.specs.Limits.{mostRows, mostColumns, entryBytes, trailerBytes}
+use Rattle.limits.specs.Limits.{mostRows, mostColumns, widest, entryBytes, trailerBytes}
 use Rattle.register.specs.Layout.{bytesBefore}
 use Rattle.register.specs.File.{rowsIn, columnsIn, versionIn, directoryIn, markIn, mark, widthIn, unfitColumn}
 use Rattle.answers.specs.Answers.{refusal}
 use Rattle.register.specs.Opening.{firstUnfit, openLines, openedOf}
+use Rattle.register.proofs.Directory.{fit-column}
 use Rattle.register.proofs.Opening.{marked, right-version, few-rows, few-columns, directory-last, all-fit, accepted}
 
 pub record Fit (file : List ℕ) : Type 0 where
@@ -40,20 +44,20 @@ pub record Fit (file : List ℕ) : Type 0 where
 abbrev shapeIn : List ℕ → Shape
 shapeIn file = record { rows = rowsIn file; columns = columnsIn file }
 
--- a refusal is no register
-none-answers : (lines : Option Line) (shape shape′ : Shape) →
+-- a refusal is no register, so where one is told, no line answered
+pub register-told : (lines : Option Line) (shape shape′ : Shape) →
     answerBy (λ line. Refused (refusal line)) (Register shape) lines ≡ Register shape′ → (lines ≡ none) × (shape ≡ shape′)
-none-answers none shape shape′ e = (refl, cc)
-none-answers (some line) shape shape′ e = let z : _≡_ {A = ℕ} 0 1 = cc in absurd (omega arith)
+register-told none shape shape′ e = (refl, cc)
+register-told (some line) shape shape′ e = let z : _≡_ {A = ℕ} 0 1 = cc in absurd (omega arith)
 
 pub opened-passes : (file : List ℕ) (shape : Shape) → openedOf file ≡ Register shape → firstLine (openLines file) ≡ none
 unfolding openedOf
-opened-passes file shape e = none-answers (firstLine (openLines file)) (shapeIn file) shape e .0
+opened-passes file shape e = register-told (firstLine (openLines file)) (shapeIn file) shape e .0
 
 pub opened-is-fit : (file : List ℕ) (shape : Shape) → openedOf file ≡ Register shape → Fit file × (shape ≡ shapeIn file)
 unfolding openedOf openLines
 opened-is-fit file shape e =
-    let answered = none-answers (firstLine (openLines file)) (shapeIn file) shape e in
+    let answered = register-told (firstLine (openLines file)) (shapeIn file) shape e in
     let line = each-fails (openLines file) (none-when-accepted (openLines file) (answered .0)) in
     let one = neither (ltb (length file) trailerBytes) (not (eqb (markIn file) mark)) (line .0) in
     let four = neither (eqb (columnsIn file) 0) (ltb mostColumns (columnsIn file)) (line .1 .1 .1 .0) in
@@ -77,6 +81,17 @@ rows-as-opened file shape opened = ap (λ (s : Shape). s .rows) (opened-is-fit f
 
 pub columns-as-opened : (file : List ℕ) (shape : Shape) → openedOf file ≡ Register shape → shape .columns ≡ columnsIn file
 columns-as-opened file shape opened = ap (λ (s : Shape). s .columns) (opened-is-fit file shape opened .1)
+
+pub few-rows-as-opened : (file : List ℕ) (shape : Shape) → openedOf file ≡ Register shape → shape .rows ≤ mostRows
+few-rows-as-opened file shape opened =
+    omega (arith, rows-as-opened file shape opened, opened-is-fit file shape opened .0 .few-rows)
+
+pub width-as-opened : (file : List ℕ) (shape : Shape) → openedOf file ≡ Register shape → (column : ℕ) → column < shape .columns →
+    (0 < widthIn file column) × (widthIn file column ≤ widest)
+width-as-opened file shape opened column there =
+    let inside : column < columnsIn file = omega (arith, columns-as-opened file shape opened) in
+    let known = fit-column file column (opened-is-fit file shape opened .0 .each-fit column inside) in
+    (known .some, known .narrow)
 
 pub fit-is-opened : (file : List ℕ) → Fit file → openedOf file ≡ Register (shapeIn file)
 fit-is-opened file fit =

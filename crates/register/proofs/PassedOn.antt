@@ -1,5 +1,6 @@
 -- A call over a file tries the lines of opening first, and then its own: a file's refusal is passed on as it is, and a file
 -- that opens leaves the rest to the call. Assumes nothing.
+--   refusal-told        an answer by a table that tells of a refusal comes by the line that says it
 --   refusal-passed-on   of a file that does not open, the line that refused it answers, whatever the call's own lines say
 --   own-lines-next      of a file that opens, the first of the call's own lines answers
 use mathlib.Core.Path.{_≡_, refl}
@@ -16,18 +17,18 @@ use Rattle.answers.specs.Answers.{refusal}
 use Rattle.register.specs.Opening.{openLines, openedOf}
 use Rattle.register.proofs.Fit.{opened-passes}
 
-told : (first : Option Line) (refused : Refusal) (shape : Shape) →
+pub refusal-told : (first : Option Line) (refused : Refusal) (shape : Shape) →
     answerBy (λ line. Refused (refusal line)) (Register shape) first ≡ Refused refused →
     (line : Line) × (first ≡ some line) × (refusal line ≡ refused)
-told none refused shape e = let z : _≡_ {A = ℕ} 0 1 = cc in absurd (omega arith)
-told (some line) refused shape e = (line, refl, cc)
+refusal-told none refused shape e = let z : _≡_ {A = ℕ} 0 1 = cc in absurd (omega arith)
+refusal-told (some line) refused shape e = (line, refl, cc)
 
 module _ (file : List ℕ) (own : List Line) where
   pub refusal-passed-on : (refused : Refusal) → openedOf file ≡ Refused refused →
       (line : Line) × (firstLine (openLines file ++ own) ≡ some line) × (refusal line ≡ refused)
   unfolding openedOf
   refusal-passed-on refused e =
-      let by = told (firstLine (openLines file)) refused _ e in
+      let by = refusal-told (firstLine (openLines file)) refused _ e in
       (by .0, first-of-earlier (openLines file) own (by .0) (by .1), by .2)
 
   pub own-lines-next : (shape : Shape) → openedOf file ≡ Register shape → firstLine (openLines file ++ own) ≡ firstLine own

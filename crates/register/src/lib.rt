@@ -52,7 +52,7 @@ struct Trailer {
 
 // How far the directory is fit: the first unfit column, or the number of columns where there is
 // none, and how many slices the columns before it have.
-struct Judged {
+struct FitSoFar {
     place: usize,
     slices: usize,
 }
@@ -85,11 +85,11 @@ pub fn open(file: &[u8]) -> Opened
     if trailer.directory + ENTRY_BYTES * trailer.columns + TRAILER_BYTES != length {
         return refused(5, 0);
     }
-    let judged = judge(file, trailer.directory, trailer.rows, trailer.columns);
-    if judged.place < trailer.columns {
-        return refused(6, judged.place);
+    let fit = fit_columns(file, trailer.directory, trailer.rows, trailer.columns);
+    if fit.place < trailer.columns {
+        return refused(6, fit.place);
     }
-    if trailer.rows * judged.slices != trailer.directory {
+    if trailer.rows * fit.slices != trailer.directory {
         return refused(7, 0);
     }
     Opened::Register(Shape {
@@ -233,7 +233,7 @@ fn unfit_entry(entry: &[u8], offset: usize) -> bool
 }
 
 // Goes through the directory column by column, and ends at the first that is unfit.
-fn judge(file: &[u8], directory: usize, rows: usize, columns: usize) -> Judged
+fn fit_columns(file: &[u8], directory: usize, rows: usize, columns: usize) -> FitSoFar
     requires { ⌜ (rows ≡ rowsIn (now file)) × (directory ≡ directoryIn (now file)) ⌝ }
     requires { ⌜ (rows ≤ mostRows) × (columns ≤ mostColumns) × (directory + entryBytes * columns ≤ length (now file)) ⌝ }
     ensures { λ r. ⌜ (r .place ≡ firstPlace (unfitColumn (now (file .entry))) columns)
@@ -247,7 +247,7 @@ fn judge(file: &[u8], directory: usize, rows: usize, columns: usize) -> Judged
         let to = from + ENTRY_BYTES;
         let entry = &file[from..to];
         if unfit_entry(entry, rows * slices) {
-            return Judged {
+            return FitSoFar {
                 place: column,
                 slices,
             };
@@ -255,7 +255,7 @@ fn judge(file: &[u8], directory: usize, rows: usize, columns: usize) -> Judged
         slices = slices + codes::slices_of(entry[0]);
         column = column + 1;
     }
-    Judged {
+    FitSoFar {
         place: column,
         slices,
     }

@@ -29,7 +29,7 @@ use Rattle.asking.specs.AtFile.{widened, testsIn, bytesIn, segmentsIn}
 use Rattle.bits.specs.Bits.{bitsOf}
 use Rattle.scan.specs.Answers.{accepted, foundBits}
 use Rattle.asking.specs.Judged.{asked}
-use Rattle.scan.proofs.Sizes.{Eighths}
+use Rattle.asking.proofs.Sizes.{Eighths}
 use Rattle.scan.proofs.SegmentSums.{foundIn, counted-in-all}
 use Rattle.scan.proofs.RowsSoFar.{SoFar}
 

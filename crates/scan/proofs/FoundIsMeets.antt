@@ -25,7 +25,7 @@ use Rattle.asking.specs.AtFile.{widened, testsIn, bytesIn}
 use Rattle.bits.specs.Bits.{bitIn}
 use Rattle.scan.specs.Answers.{leftIn}
 use Rattle.scan.proofs.LeftBits.{bit-left}
-use Rattle.segment.proofs.Planning.{below-the-limit}
+use Rattle.codes.proofs.Width.{below-the-limit}
 use Rattle.scan.proofs.Accepting.{Accepted, fits}
 
 -- what stands anywhere in a list of bytes, and 0 past its end, is a byte

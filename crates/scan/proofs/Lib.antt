@@ -1,6 +1,4 @@
 -- The laws of the scan.
-pub mod Judging
-pub mod Sizes
 pub mod SegmentSums
 pub mod RowsSoFar
 pub mod WithinBounds

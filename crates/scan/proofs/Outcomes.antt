@@ -1,73 +1,39 @@
 -- A scan, read off its table: what each line settles of the reply and of the result. Assumes nothing.
+--   asked-first                of a query that asking refuses, the line that asking tells answers
 --   Answered                   a reply and a result that are the definitions'
 --   refused-by, accepted-by    the line that answers settles both, and so does that none does
---   refused-file               a file that does not open is refused as opening says
---   wrong-size                 refusal 14 of a file that opens
---   too-many-tests             11, the size being right
---   unfit-test                 12 or 13, as the tests were judged
---   too-short                  10, every test being fit
+--   unasked                    so its refusal is passed on
+--   too-short                  10, the query being fit
 --   scanned                    none of them
-use Prim.Native.Nat.{ℕ, suc, _≤_, _<_}
-use native.Mathlib.Omega.{arith}
+use Prim.Native.Nat.{ℕ, _≤_, _<_}
 use mathlib.Core.Path.{_≡_, refl, sym, ap, _∙_}
-use mathlib.Core.Logic.{_⊎_, inl, inr}
-use mathlib.Core.List.{List, [], _∷_, _++_}
-use mathlib.Core.Bool.{true, false}
-use mathlib.Core.Option.{Option, none, some, Option·some-injective, Option·none-ne-some}
+use mathlib.Core.List.{List, [], _∷_}
+use mathlib.Core.Option.{none, some}
 use borrow.Author.Tests.{lt-ltb, le-ltb}
-use lib.Dec.{ltb, leb}
+use lib.Dec.{ltb}
 use lib.ListN.{length}
-use Rattle.basis.specs.Refusals.{Line, refuse, refuseFor, firstLine}
+use Rattle.basis.specs.Refusals.{Line, refuseFor, firstLine}
 use Rattle.basis.specs.Buffers.{laid}
-use Rattle.basis.proofs.Truth.{either}
-use Rattle.basis.proofs.Refusals.{first-of-earlier, first-of-later}
-use Rattle.codes.specs.Width.{tooLarge}
+use Rattle.basis.proofs.Refusals.{first-of-earlier, Past, at-first, passes, stops, ends, passes-all}
 use Rattle.answers.specs.declared.Refusal.{Refusal}
-use Rattle.register.specs.declared.Shape.{Shape}
-use Rattle.register.specs.declared.Opened.the-variants.{Register, Refused as NotOpened}
-use Rattle.register.specs.File.{rowsIn, columnsIn, widthIn}
 use Rattle.answers.specs.Answers.{refusal}
-use Rattle.register.specs.Opening.{openedOf}
-use Rattle.register.proofs.Fit.{opened-is-fit}
-use Rattle.register.proofs.PassedOn.{refusal-passed-on, own-lines-next}
-use Rattle.query.specs.declared.Test.{Test}
+use Rattle.register.specs.declared.Shape.{Shape}
+use Rattle.register.specs.declared.Opened.the-variants.{Register, Refused as NotFit}
+use Rattle.register.specs.File.{rowsIn}
+use Rattle.register.proofs.Fit.{rows-as-opened}
 use Rattle.query.specs.declared.Query.{Query}
-use Rattle.limits.specs.Limits.{mostTests}
-use Rattle.query.specs.Tests.{literalOf, testsOf}
+use Rattle.asking.specs.Refusals.{askLines, askedOf}
+use Rattle.asking.proofs.Asked.{asked-passes, asked-stops, opened-as-asked}
 use Rattle.scan.specs.declared.Scanned.{Scanned}
-use Rattle.scan.specs.declared.Verdict.the-variants.{Fit, Unfit}
 use Rattle.bits.specs.Bits.{bytesFor}
-use Rattle.scan.specs.Refusals.{unfitSize, testLines, ownLines, scanLines}
+use Rattle.scan.specs.Refusals.{scanLines}
 use Rattle.scan.specs.Answers.{refused, accepted, foundBits, scannedOf, leftIn}
-use Rattle.scan.specs.Steps.{verdictOf}
 
--- a test's line carries no need
-no-need : (file : List ℕ) (place : ℕ) (tests : List Test) (line : Line) → firstLine (testLines file place tests) ≡ some line →
-    line .need ≡ 0
-unfolding testLines
-no-need file place [] line e = absurd (Option·none-ne-some line e)
-no-need file place (test ∷ tests) line e =
-    go (either (leb (columnsIn file) (test .column)))
-    (either (tooLarge (widthIn file (test .column)) (literalOf (test .comparison))))
-    (no-need file (suc place) tests line)
-  where
-    go : (leb (columnsIn file) (test .column) ≡ true) ⊎ (leb (columnsIn file) (test .column) ≡ false) →
-        (tooLarge (widthIn file (test .column)) (literalOf (test .comparison)) ≡ true) ⊎
-        (tooLarge (widthIn file (test .column)) (literalOf (test .comparison)) ≡ false) →
-        (firstLine (testLines file (suc place) tests) ≡ some line → line .need ≡ 0) → line .need ≡ 0
-    go (inl h) d rest = ap (λ (l : Line). l .need) (sym (Option·some-injective _ line (rw h at e)))
-    go (inr h) (inl d) rest = ap (λ (l : Line). l .need) (sym (Option·some-injective _ line (rw (h, d) at e)))
-    go (inr h) (inr d) rest = rest (rw (h, d) at e)
-
--- what a verdict tells of the line that answered
-told : (first : Option Line) (number place : ℕ) → verdictOf first ≡ Unfit number place →
-    (line : Line) × (first ≡ some line) × (line .number ≡ number) × (line .place ≡ place)
-told none number place e = let z : _≡_ {A = ℕ} 0 1 = cc in absurd (omega arith)
-told (some line) number place e = (line, refl, cc, cc)
-
-fit : (first : Option Line) → verdictOf first ≡ Fit → first ≡ none
-fit none e = refl
-fit (some line) e = let z : _≡_ {A = ℕ} 0 1 = cc in absurd (omega arith)
+pub asked-first : (file : List ℕ) (size : ℕ) (query : Query) (room : ℕ) (unfit : Refusal) → askedOf file size query ≡ NotFit unfit →
+    (line : Line) × (firstLine (scanLines file size query room) ≡ some line) × (refusal line ≡ unfit)
+asked-first file size query room unfit told =
+    let by = asked-stops file size query unfit told in
+    (by .0, first-of-earlier (askLines file size query) _ (by .0) (by .1), by .2)
 
 module _ (file : List ℕ) (size : ℕ) (query : Query) (out : List ℕ) where
   abbrev pub Answered : Scanned → List ℕ → Type 0
@@ -83,64 +49,26 @@ module _ (file : List ℕ) (size : ℕ) (query : Query) (out : List ℕ) where
   unfolding scannedOf leftIn
   accepted-by first e f = rw (e, f, first) (refl, refl)
 
-  pub refused-file : (refusal′ : Refusal) → openedOf file ≡ NotOpened refusal′ → {r : Scanned} → r ≡ refused refusal′ → Answered r out
-  refused-file refusal′ not-opened e =
-      let by = refusal-passed-on file (ownLines file size query (length out)) refusal′ not-opened in
+  pub unasked : (unfit : Refusal) → askedOf file size query ≡ NotFit unfit → {r : Scanned} → r ≡ refused unfit → Answered r out
+  unasked unfit told e =
+      let by = asked-first file size query (length out) unfit told in
       refused-by (by .0) (by .1) (e ∙ ap refused (sym (by .2)))
 
-  module _ (shape : Shape) (opened : openedOf file ≡ Register shape) where
-    -- past opening, the first of the own lines answers
-    next : firstLine (scanLines file size query (length out)) ≡ firstLine (ownLines file size query (length out))
-    next = own-lines-next file (ownLines file size query (length out)) shape opened
+  module _ (shape : Shape) (told : askedOf file size query ≡ Register shape) where
+    -- past the query's lines, the room is left
+    at-room : Past (scanLines file size query (length out))
+        (refuseFor 10 (ltb (length out) (bytesFor (rowsIn file))) (bytesFor (rowsIn file)) ∷ [])
+    at-room = passes-all (askLines file size query) _ (at-first _) (asked-passes file size query shape told)
 
     -- the rows are the file's
     same-rows : shape .rows ≡ rowsIn file
-    same-rows = ap (λ (s : Shape). s .rows) (opened-is-fit file shape opened .1)
+    same-rows = rows-as-opened file shape (opened-as-asked file size query shape told)
 
-    pub wrong-size : unfitSize size ≡ true → {r : Scanned} → r ≡ refused (refusal (refuse 14 true)) → Answered r out
-    unfolding ownLines
-    wrong-size h = refused-by (refuse 14 true) (next ∙ simp h)
+    pub too-short : length out < bytesFor (shape .rows) → {r : Scanned} →
+        r ≡ refused (record { number = 10; place = 0; need = bytesFor (shape .rows) }) → Answered r out
+    too-short h e =
+        refused-by _ (stops at-room (lt-ltb (length out) (bytesFor (rowsIn file)) (rw same-rows at h))) (rw same-rows at e)
 
-    module _ (right : unfitSize size ≡ false) where
-      pub too-many-tests : mostTests < query .count → {r : Scanned} → r ≡ refused (refusal (refuse 11 true)) → Answered r out
-      unfolding ownLines
-      too-many-tests h = refused-by (refuse 11 true) (next ∙ simp (right, lt-ltb mostTests (query .count) h))
-
-      module _ (few : query .count ≤ mostTests) where
-        -- the line on the room, which is tried last
-        last : List Line
-        last = refuseFor 10 (ltb (length out) (bytesFor (rowsIn file))) (bytesFor (rowsIn file)) ∷ []
-
-        -- past 14 and 11, the tests' lines are next
-        judged-next : firstLine (scanLines file size query (length out)) ≡ firstLine (testLines file 0 (testsOf query) ++ last)
-        unfolding ownLines last
-        judged-next = next ∙ simp (right, le-ltb mostTests (query .count) few)
-
-        pub unfit-test : (number place : ℕ) → verdictOf (firstLine (testLines file 0 (testsOf query))) ≡ Unfit number place →
-            {r : Scanned} → r ≡ refused (record { number = number; place = place; need = 0 }) → Answered r out
-        unfit-test number place verdict e =
-            let by = told (firstLine (testLines file 0 (testsOf query))) number place verdict in
-            let need = no-need file 0 (testsOf query) (by .0) (by .1) in
-            refused-by (by .0) (judged-next ∙ first-of-earlier (testLines file 0 (testsOf query)) last (by .0) (by .1))
-            (e ∙ rw (by .2, by .3, need))
-
-        module _ (verdict : verdictOf (firstLine (testLines file 0 (testsOf query))) ≡ Fit) where
-          -- past the tests, the room is left
-          each-fits : firstLine (testLines file 0 (testsOf query)) ≡ none
-          each-fits = fit (firstLine (testLines file 0 (testsOf query))) verdict
-
-          room-next : firstLine (scanLines file size query (length out)) ≡ firstLine last
-          room-next = judged-next ∙ first-of-later (testLines file 0 (testsOf query)) last each-fits
-
-          pub too-short : length out < bytesFor (shape .rows) → {r : Scanned} →
-              r ≡ refused (refusal (refuseFor 10 true (bytesFor (shape .rows)))) → Answered r out
-          unfolding last
-          too-short h e =
-              refused-by (refuseFor 10 true (bytesFor (rowsIn file)))
-              (room-next ∙ simp (lt-ltb (length out) (bytesFor (rowsIn file)) (rw same-rows at h)))
-              (rw same-rows at e)
-
-          pub scanned : bytesFor (shape .rows) ≤ length out → {r : Scanned} {left : List ℕ} → r ≡ accepted file size query →
-              left ≡ laid out 0 (foundBits file query) → Answered r left
-          unfolding last
-          scanned h = accepted-by (room-next ∙ simp (le-ltb (length out) (bytesFor (rowsIn file)) (rw same-rows at h)))
+    pub scanned : bytesFor (shape .rows) ≤ length out → {r : Scanned} {left : List ℕ} → r ≡ accepted file size query →
+        left ≡ laid out 0 (foundBits file query) → Answered r left
+    scanned h = accepted-by (ends (passes at-room (le-ltb (length out) (bytesFor (rowsIn file)) (rw same-rows at h))))

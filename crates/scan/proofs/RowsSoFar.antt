@@ -31,7 +31,7 @@ use Rattle.asking.specs.Judged.{asked}
 use Rattle.segment.specs.Steps.{SegmentScanned}
 use Rattle.basis.proofs.FrontSweeps.{all-zero}
 use Rattle.bits.proofs.Packed.{bits-same, bits-joined, length-bits}
-use Rattle.scan.proofs.Sizes.{Eighths, starts-on-a-byte}
+use Rattle.asking.proofs.Sizes.{Eighths, starts-on-a-byte}
 use Rattle.scan.proofs.SegmentSums.{foundIn, countedIn}
 
 -- so many segments are done, and the rows before the first that is left

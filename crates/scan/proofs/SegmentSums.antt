@@ -2,7 +2,7 @@
 --   foundIn, countedIn      whether a row is found, and what a test counts in a segment
 --   counted-in-all          over enough segments the sum is the test's count
 --   few-counted             over any number of segments it is at most 4 for each row
-use Prim.Native.Nat.{ℕ, _*_, _^_, _≤_, _<_}
+use Prim.Native.Nat.{ℕ, _*_, _≤_, _<_}
 use native.Mathlib.Omega.{arith}
 use native.Mathlib.Nat.{mul-le-mul}
 use mathlib.Core.Path.{_≡_, sym, _∙_}

@@ -23,7 +23,7 @@ use Rattle.query.specs.Tests.{testAt}
 use Rattle.segment.specs.declared.Segment.{Segment}
 use Rattle.bits.specs.Bits.{bytesFor, FoundRows}
 use Rattle.segment.specs.Steps.{SegmentScanned}
-use Rattle.scan.proofs.Sizes.{Eighths}
+use Rattle.asking.proofs.Sizes.{Eighths}
 use Rattle.scan.proofs.SegmentSums.{foundIn, countedIn, few-counted}
 use Rattle.scan.proofs.RowsSoFar.{SoFar, on-a-byte, next-counted}
 

@@ -1,17 +1,8 @@
--- What a step of a scan may rely on, and what it answers. Assumes nothing.
+-- What a step of a scan may rely on. Assumes nothing.
 use Prim.Native.Nat.{ℕ, _+_, _*_, _≤_, _<_}
 use mathlib.Core.List.{List}
-use mathlib.Core.Option.{Option, none, some}
 use lib.ListN.{getD}
 use Rattle.limits.specs.Limits.{mostRows, mostSlices, mostTests}
-use Rattle.basis.specs.Refusals.{Line}
-use Rattle.scan.specs.declared.Verdict.{Verdict}
-use Rattle.scan.specs.declared.Verdict.the-variants.{Fit, Unfit}
-
--- what judging the tests found
-abbrev pub verdictOf : Option Line → Verdict
-verdictOf none = Fit
-verdictOf (some line) = Unfit (line .number) (line .place)
 
 -- counts of no more than every slice of every row, so that their sum is far from the edge
 abbrev pub Small : List ℕ → Type 0

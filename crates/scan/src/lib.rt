@@ -8,22 +8,18 @@ use query::Test;
 use register::Opened;
 use register::Shape;
 ghost use mathlib.Core.Path.{_≡_};
-ghost use Prim.Native.Nat.{_+_, _≤_, _<_, min};
+ghost use Prim.Native.Nat.{_+_, _≤_, min};
 ghost use mathlib.Core.Bool.{false};
-ghost use lib.ListN.{length, getD, take};
+ghost use lib.ListN.{length, getD};
 ghost use Rattle.limits.specs.Limits.{mostTests};
 ghost use Rattle.basis.specs.Lists.{sum, below};
 ghost use Rattle.basis.specs.Buffers.{laid};
-ghost use Rattle.basis.specs.Refusals.{firstLine};
-ghost use Rattle.register.specs.declared.Opened.the-variants.{Register};
-ghost use Rattle.register.specs.Opening.{openedOf};
-ghost use Rattle.scan.specs.declared.Verdict.the-variants.{Fit};
 ghost use Rattle.bits.specs.Bits.{bytesFor};
-ghost use Rattle.scan.specs.Refusals.{unfitSize, testLines};
+ghost use Rattle.asking.specs.Sizes.{unfitSize};
 ghost use Rattle.scan.specs.Answers.{refused, accepted, foundBits, scannedOf, leftIn};
 ghost use Rattle.basis.specs.Sweeps.{Swept};
 ghost use Rattle.asking.specs.Judged.{Judged, asked};
-ghost use Rattle.scan.specs.Steps.{Small, SmallSums, verdictOf};
+ghost use Rattle.scan.specs.Steps.{Small, SmallSums};
 
 // The reply to a scan: how many rows match, a count of bytes for each test (0 after the last) and
 // their total; or the refusal, and then 0 in all of these.
@@ -34,39 +30,26 @@ pub struct Scanned {
     pub total: usize,
 }
 
-// Whether every test fits the file, or the number and place of the first refusal.
-enum Verdict {
-    Fit,
-    Unfit(usize, usize),
-}
-
 // Finds the rows of a file that meet every test, and sets their bits at the front of the result.
 // Refused, it changes nothing.
 pub fn scan(file: &[u8], size: usize, query: Query, result: &mut [u8]) -> Scanned
     ensures answer { λ r. ⌜ r ≡ scannedOf (now (file .entry)) size query (length (now (result .entry))) ⌝ }
     ensures left { λ r. ⌜ now (result .exit) ≡ leftIn (now (file .entry)) size query (now (result .entry)) ⌝ }
 {
-    let opened = register::open(file);
-    let Opened::Register(shape) = opened else {
-        return refused(register::refusal_of(opened));
+    let asked = asking::ask(file, size, query);
+    let Opened::Register(shape) = asked else {
+        return refused(register::refusal_of(asked));
     };
-    if unfit_size(size) {
-        return refused_with(14, 0, 0);
-    }
-    let count = query.count;
-    if MOST_TESTS < count {
-        return refused_with(11, 0, 0);
-    }
-    let tests = query.tests;
-    let verdict = judge(file, shape, tests, count);
-    if let Verdict::Unfit(number, place) = verdict {
-        return refused_with(number, place, 0);
-    }
     let need = bits::bytes_for(shape.rows);
     if result.len() < need {
-        return refused_with(10, 0, need);
+        return refused(Refusal {
+            number: 10,
+            place: 0,
+            need,
+        });
     }
-    scan_rows(file, shape, size, tests, count, result)
+    let tests = query.tests;
+    scan_rows(file, shape, size, tests, query.count, result)
 }
 
 fn refused(refusal: Refusal) -> Scanned
@@ -80,52 +63,8 @@ fn refused(refusal: Refusal) -> Scanned
     }
 }
 
-fn refused_with(number: usize, place: usize, need: usize) -> Scanned
-    ensures { λ r. ⌜ r ≡ refused (record { number = number; place = place; need = need }) ⌝ }
-{
-    refused(Refusal {
-        number,
-        place,
-        need,
-    })
-}
-
-// Whether a segment may not have this many rows.
-fn unfit_size(size: usize) -> bool
-    ensures { λ r. ⌜ r ≡ unfitSize size ⌝ }
-{
-    match size {
-        8 | 16 | 32 | 64 => false,
-        _ => true,
-    }
-}
-
-// Goes through the tests in turn, each by its column and then by its literal.
-fn judge(file: &[u8], shape: Shape, tests: [Test; MOST_TESTS], count: usize) -> Verdict
-    requires { ⌜ (openedOf (now file) ≡ Register shape) × (count ≤ mostTests) ⌝ }
-    ensures verdict { λ r. ⌜ r ≡ verdictOf (firstLine (testLines (now (file .entry)) 0 (take count tests))) ⌝ }
-    ensures fit { λ r. ⌜ (r ≡ Fit → Judged (now (file .entry)) shape tests count) ⌝ }
-{
-    let columns = shape.columns;
-    let mut t = 0;
-    while t < count {
-        let test = tests[t];
-        let column = test.column;
-        if columns <= column {
-            return Verdict::Unfit(12, t);
-        }
-        let comparison = test.comparison;
-        let literal = query::literal_of(comparison);
-        if codes::too_large(register::width_at(file, shape, column), literal) {
-            return Verdict::Unfit(13, t);
-        }
-        t = t + 1;
-    }
-    Verdict::Fit
-}
-
-// Scans all segments, one after the other.
-fn scan_rows(
+// Scans all segments of a file to which a query was held, one after the other.
+pub fn scan_rows(
     file: &[u8],
     shape: Shape,
     size: usize,

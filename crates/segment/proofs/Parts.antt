@@ -3,51 +3,36 @@
 --   rows-are           the rows of a judged file
 --   part-within        the bytes lie in the file
 --   part-long, part-byte    so many of them, and which each is
-use Prim.Native.Nat.{ℕ, _+_, _-_, _*_, _^_, _≤_, _<_}
+use Prim.Native.Nat.{ℕ, _+_, _-_, _*_, _≤_, _<_}
 use native.Mathlib.Omega.{arith}
-use mathlib.Core.Path.{_≡_, ap}
+use mathlib.Core.Path.{_≡_}
 use mathlib.Core.List.{List}
-use mathlib.Core.Bool.{false}
-use lib.Dec.{ltb}
 use lib.ListN.{length, getD, take, drop, length-take, length-drop}
 use lib.Seq.{getD-take, getD-drop}
-use borrow.Author.Tests.{ltb-true, not-false}
-use Rattle.codes.specs.Width.{slicesOf, tooLarge}
+use Rattle.codes.specs.Width.{slicesOf}
+use Rattle.codes.proofs.Width.{below-the-limit}
+use Rattle.limits.specs.Limits.{widest}
 use Rattle.register.specs.declared.Shape.{Shape}
-use Rattle.register.specs.File.{rowsIn, columnsIn, widthIn, offsetIn}
+use Rattle.register.specs.File.{rowsIn, widthIn, offsetIn}
 use Rattle.register.specs.Cells.{byteAt}
-use Rattle.register.proofs.Fit.{Fit, opened-is-fit}
-use Rattle.register.proofs.Directory.{FitColumn, fit-column}
-use Rattle.register.proofs.Body.{in-the-file}
+use Rattle.register.proofs.Fit.{rows-as-opened, width-as-opened}
+use Rattle.register.proofs.Body.{byte-as-opened}
 use Rattle.query.specs.declared.Test.{Test}
 use Rattle.query.specs.Tests.{testAt}
 use Rattle.segment.specs.Steps.{SegmentFit}
 use Rattle.segment.proofs.Work.{FitWork}
 
--- a literal that is not too large is below 2^width
-fits-width : (width literal : ℕ) → tooLarge width literal ≡ false → literal < 2 ^ width
-unfolding tooLarge
-fits-width width literal fits = ltb-true literal (2 ^ width) (not-false (ltb literal (2 ^ width)) fits)
-
 module _ {file : List ℕ} {rows first n : ℕ} {tests : List Test} {count : ℕ} (fit : SegmentFit file rows first n tests count) where
-  -- the file is fit, and has these rows and columns
   abbrev shape : Shape
   shape = record { rows = rows; columns = fit .columns }
 
-  known : Fit file × (shape ≡ record { rows = rowsIn file; columns = columnsIn file })
-  known = opened-is-fit file shape (fit .judged .opened)
-
   -- the rows of the file
   rows-are : rows ≡ rowsIn file
-  rows-are = ap (λ (shape : Shape). shape .rows) (known .1)
+  rows-are = rows-as-opened file shape (fit .judged .opened)
 
-  -- each test's column is one of the file's
-  has-column : (t : ℕ) → t < count → testAt tests t .column < columnsIn file
-  has-column t h = omega (arith, fit .judged .columns t h, ap (λ (shape : Shape). shape .columns) (known .1))
-
-  -- with a width that fits
-  column-fits : (t : ℕ) → t < count → FitColumn file (testAt tests t .column)
-  column-fits t h = fit-column file (testAt tests t .column) (known .0 .each-fit (testAt tests t .column) (has-column t h))
+  -- each test's column has a width that fits
+  width-fits : (t : ℕ) → t < count → (0 < widthIn file (testAt tests t .column)) × (widthIn file (testAt tests t .column) ≤ widest)
+  width-fits t h = width-as-opened file shape (fit .judged .opened) (testAt tests t .column) (fit .judged .columns t h)
 
   -- so the work on it is fit
   pub segment-fits : count ≤ length tests → FitWork (record { file = file; tests = tests; count = count; first = first; n = n })
@@ -56,18 +41,20 @@ module _ {file : List ℕ} {rows first n : ℕ} {tests : List Test} {count : ℕ
         few = fit .judged .few;
         there = there;
         short = fit .short;
-        some = λ t h. column-fits t h .some;
-        narrow = λ t h. column-fits t h .narrow;
-        literals = λ t h. fits-width _ _ (fit .judged .literals t h);
+        some = λ t h. width-fits t h .0;
+        narrow = λ t h. width-fits t h .1;
+        literals = λ t h. below-the-limit _ _ (fit .judged .literals t h);
       }
 
   -- the segment's bytes of a slice lie in the file
   pub part-within : (t j : ℕ) → t < count → j < slicesOf (widthIn file (testAt tests t .column)) → 0 < n →
       offsetIn file (testAt tests t .column) + j * rows + first + n ≤ length file
   part-within t j h within some =
-      let last : first + (n - 1) < rowsIn file = omega (arith, rows-are, fit .within) in
-      rw rows-are
-      (omega (arith, in-the-file file (known .0) (testAt tests t .column) j (first + (n - 1)) (has-column t h) within last))
+      let last : first + (n - 1) < rows = omega (arith, fit .within) in
+      omega (
+        arith,
+        byte-as-opened file shape (fit .judged .opened) (testAt tests t .column) j (first + (n - 1)) (fit .judged .columns t h) within last,
+      )
 
   -- each of them is a row's byte
   pub part-byte : (t j from k : ℕ) → from ≡ offsetIn file (testAt tests t .column) + j * rows + first → k < n →

@@ -2,20 +2,16 @@
 use Prim.Native.Nat.{ℕ, _+_, _*_, _^_, _≤_, _<_}
 use mathlib.Core.Path.{_≡_}
 use mathlib.Core.List.{List}
-use mathlib.Core.Bool.{false, cond}
+use mathlib.Core.Bool.{cond}
 use lib.ListN.{length, getD}
 use Rattle.basis.specs.Lists.{run}
 use Rattle.limits.specs.Limits.{widest, mostSlices, mostTests, longestSegment}
-use Rattle.codes.specs.Width.{slicesOf, tooLarge}
+use Rattle.codes.specs.Width.{slicesOf}
 use Rattle.codes.specs.Bytes.{byteOf}
 use Rattle.codes.specs.Pad.{highOf}
-use Rattle.register.specs.declared.Shape.{Shape}
-use Rattle.register.specs.declared.Opened.the-variants.{Register}
 use Rattle.register.specs.File.{widthIn, offsetIn}
-use Rattle.register.specs.Opening.{openedOf}
 use Rattle.query.specs.declared.Test.{Test}
 use Rattle.asking.specs.Judged.{Judged, asked}
-use Rattle.query.specs.declared.Query.{Query}
 use Rattle.query.specs.Tests.{literalOf, testAt}
 use Rattle.schedule.specs.Schedule.{countIn, found}
 use Rattle.schedule.specs.Comparisons.{comparing}

@@ -18,7 +18,8 @@ use Rattle.schedule.specs.Segments.{segmentCount, segment, segments}
 use Rattle.schedule.specs.Schedule.{standing, ruledOut, keepsOpen, counts, countIn, count, total, found, matches}
 use Rattle.bits.specs.Bits.{bytesFor, bitsAt, bitsOf, bitIn}
 use Rattle.bits.specs.Marked.{markedBelow, markedPast, unfitBits}
-use Rattle.scan.specs.Refusals.{unfitSize, testLines, ownLines}
+use Rattle.asking.specs.Sizes.{unfitSize}
+use Rattle.asking.specs.Refusals.{testsLines, queryLines}
 use Rattle.scan.specs.Answers as scans
 use Rattle.rows.specs.RowList as lists
 use Rattle.exports.specs.Replies.{scanReply}
@@ -31,7 +32,7 @@ unfolding table twoRows tenRows tenCodes oneByte noRows joined big padOf slicesO
     opens.shownFor opens.openLines trailerIn entryIn numberAt little mark firstPlace unfitColumn unfitEntry unfitWidth widthIn offsetIn slicesBefore
     writes.shownFor writes.leftIn writes.writeLines fileLength fileOf bodyOf columnOf sliceOf directoryOf entryWith trailerOf trailerWith
     flatten toLittle byteOf bytesOf storedOf toBig tooLarge scanReply scans.scannedOf scans.accepted scans.leftIn scans.foundBits
-    bitsOf bitsAt bytesFor ownLines testLines unfitSize byteAt standing ruledOut keepsOpen counts countIn count total found matches segmentCount
+    bitsOf bitsAt bytesFor queryLines testsLines unfitSize byteAt standing ruledOut keepsOpen counts countIn count total found matches segmentCount
     segment segments lastSlice clearedByte lists.shownFor lists.leftIn lists.listLines unfitBits markedPast
     markedBelow bitIn
 settled = refl

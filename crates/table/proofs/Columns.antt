@@ -11,15 +11,13 @@ use native.Mathlib.Omega.{arith}
 use native.Mathlib.Numerals.{add-one}
 use mathlib.Core.Path.{_≡_, refl}
 use mathlib.Core.List.{List}
-use mathlib.Core.Bool.{false}
 use lib.Arith.{digits-lt, digits-mod}
 use lib.ListN.{length}
-use borrow.Author.Tests.{ltb-true, not-false}
 use Rattle.basis.proofs.Numbers.{four-bytes}
 use Rattle.limits.specs.Limits.{widest, mostSlices, fourBytes}
-use Rattle.codes.specs.Width.{slicesOf, tooLarge}
+use Rattle.codes.specs.Width.{slicesOf}
 use Rattle.codes.specs.Bytes.{storedOf}
-use Rattle.codes.proofs.Width.{unfit-false, few-slices-of}
+use Rattle.codes.proofs.Width.{unfit-false, few-slices-of, below-the-limit}
 use Rattle.codes.proofs.RoundTrip.{stored-below}
 use Rattle.register.specs.Layout.{slicesBefore}
 use Rattle.register.proofs.Directory.{one-more-column}
@@ -47,11 +45,6 @@ one-more-counted widths fit slices column more before there same =
       few = omega (arith, before .few);
     }
 
--- a code that is not too large
-below-limit : (width code : ℕ) → tooLarge width code ≡ false → code < 2 ^ width
-unfolding tooLarge
-below-limit width code fits = ltb-true code (2 ^ width) (not-false _ fits)
-
 module _ (rows : ℕ) (widths codes : List ℕ) (fit : FitCodes rows widths codes) (row column : ℕ) (row-there : row < rows)
     (column-there : column < length widths) where
   pub code-there : row * length widths + column < length codes
@@ -60,7 +53,7 @@ module _ (rows : ℕ) (widths codes : List ℕ) (fit : FitCodes rows widths code
   pub code-below : codeOf widths codes row column < 2 ^ widthOf widths column
   code-below =
       let own = digits-mod row column-there in
-      below-limit (widthOf widths column) _ (rw own at (fit .each (row * length widths + column) code-there))
+      below-the-limit (widthOf widths column) _ (rw own at (fit .each (row * length widths + column) code-there))
 
   pub stored-small : FitWidths widths → storedOf (widthOf widths column) (codeOf widths codes row column) < fourBytes
   stored-small fit-widths =

@@ -89,27 +89,27 @@ past-5 c =
     let columns = known (read-7 c) .columns in
     opening.directory-last _ (past-4 (c .before .before .before)) (omega (arith, known (read-7 c) .directory, c .if7 .left))
 
--- the directory as it was judged
-first-unfit : (c : tie.After-judge) → c .judge .result .place ≡ firstUnfit (fileAt (read-7 (c .before)))
+-- how far the directory is fit
+first-unfit : (c : tie.After-fit-columns) → c .fit-columns .result .place ≡ firstUnfit (fileAt (read-7 (c .before)))
 first-unfit c =
     let read = read-7 (c .before) in
-    c .judge .ensures .0 ∙ ap (firstPlace (unfitColumn (fileAt read))) (known read .columns)
+    c .fit-columns .ensures .0 ∙ ap (firstPlace (unfitColumn (fileAt read))) (known read .columns)
 
 past-6 : (c : tie.Else8) → openedOf (fileAt (read-8 c)) ≡ after 6 (fileAt (read-8 c))
 past-6 c =
-    let judged = c .before .before .before in
+    let far = c .before .before .before in
     let columns = known (read-8 c) .columns in
-    opening.all-fit _ (past-5 (judged .before)) (omega (arith, first-unfit judged, c .if8 .left))
+    opening.all-fit _ (past-5 (far .before)) (omega (arith, first-unfit far, c .if8 .left))
 
 -- where all columns are fit, their slices are the body
-body : (c : tie.Else8) → trailerAt (read-8 c) .rows * c .before .before .before .judge .result .slices ≡
+body : (c : tie.Else8) → trailerAt (read-8 c) .rows * c .before .before .before .fit-columns .result .slices ≡
     bytesBefore (rowsIn (fileAt (read-8 c))) (widthIn (fileAt (read-8 c))) (columnsIn (fileAt (read-8 c)))
 body c =
-    let judged = c .before .before .before in
+    let far = c .before .before .before in
     let read = read-8 c in
-    let all : judged .judge .result .place ≡ columnsIn (fileAt read) =
-    omega (arith, known read .columns, c .if8 .left, first-unfit judged, first-at-most (unfitColumn (fileAt read)) (columnsIn (fileAt read))) in
-    ap₂ _*_ (known read .rows) (judged .judge .ensures .1 ∙ ap (slicesBefore (widthIn (fileAt read))) all)
+    let all : far .fit-columns .result .place ≡ columnsIn (fileAt read) =
+    omega (arith, known read .columns, c .if8 .left, first-unfit far, first-at-most (unfitColumn (fileAt read)) (columnsIn (fileAt read))) in
+    ap₂ _*_ (known read .rows) (far .fit-columns .ensures .1 ∙ ap (slicesBefore (widthIn (fileAt read))) all)
 
 refused-requires : tie.Need-refused-requires
 refused-requires c κs = search needs
@@ -194,8 +194,8 @@ returns-7 c =
     promised _ (c .refused7 .ensures)
     (opening.directory-elsewhere _ (past-4 past) (omega (arith, known (read-6 past) .directory, c .before .if7 .taken)))
 
-judge-requires : tie.Need-judge-requires
-judge-requires c κs =
+fit-columns-requires : tie.Need-fit-columns-requires
+fit-columns-requires c κs =
     let read = read-7 c in
     let fit = c .before .before .before in
     let rows = fit .before .before .before .before in (
@@ -208,24 +208,24 @@ refused-requires-8 c κs = search needs
 
 returns-8 : tie.Need-returns-8
 returns-8 c =
-    let judged = c .before .before .before .before in
-    let columns = known (read-7 (judged .before)) .columns in
-    let first = first-unfit judged in
+    let far = c .before .before .before .before in
+    let columns = known (read-7 (far .before)) .columns in
+    let first = first-unfit far in
     promised _ (c .refused8 .ensures ∙ ap (refusedWith 6) first)
-    (opening.unfit-column _ (past-5 (judged .before)) (omega (arith, c .before .if8 .taken)))
+    (opening.unfit-column _ (past-5 (far .before)) (omega (arith, c .before .if8 .taken)))
 
 mul-if9 : tie.Need-mul-if9
 mul-if9 c =
     let past = c .before .before in
-    let judged = past .before .before .before in
-    let fit = judged .before .before .before .before in
+    let far = past .before .before .before in
+    let fit = far .before .before .before .before in
     let rows = fit .before .before .before .before in
     let read = read-8 past in
     let all = first-at-most (unfitColumn (fileAt read)) (columnsIn (fileAt read)) in
     omega (
       arith,
-      few-bytes (trailerAt read .rows) (judged .judge .result .slices) (judged .judge .result .place)
-          (rows .if4 .left) (judged .judge .ensures .2) (omega (arith, first-unfit judged, known read .columns, fit .if6 .left)),
+      few-bytes (trailerAt read .rows) (far .fit-columns .result .slices) (far .fit-columns .result .place)
+          (rows .if4 .left) (far .fit-columns .ensures .2) (omega (arith, first-unfit far, known read .columns, fit .if6 .left)),
     )
 
 refused-requires-9 : tie.Need-refused-requires-9
@@ -269,7 +269,7 @@ open-spec =
     add-if7-2
     refused-requires-7
     returns-7
-    judge-requires
+    fit-columns-requires
     refused-requires-8
     returns-8
     mul-if9

@@ -2,17 +2,15 @@
 -- Assumes nothing.
 use Prim.Native.Nat.{ℕ, _-_, _≤_, _<_}
 use native.Mathlib.Omega.{arith}
-use mathlib.Core.Path.{_≡_, refl, ap}
+use mathlib.Core.Path.{_≡_, refl}
 use borrow.Author.Needs.{needs}
 use lib.ListN.{length}
-use Rattle.register.specs.declared.Shape.{Shape}
 use Rattle.limits.specs.Limits.{mostRows, widest}
 use Rattle.register.specs.File.{rowsIn, widthIn}
-use Rattle.register.proofs.Fit.{opened-is-fit}
+use Rattle.register.proofs.Fit.{rows-as-opened, few-rows-as-opened, width-as-opened}
 use Rattle.query.specs.Tests.{testAt}
 use Rattle.scan.proofs.WithinBounds.{found-rows, ones-at-most, counts-small, sums-small, matches-at-most, room-for-segment}
-use Rattle.segment.proofs.Planning.{narrow}
-use Rattle.scan.proofs.Sizes.{Eighths, in-eighths}
+use Rattle.asking.proofs.Sizes.{Eighths, in-eighths}
 use Rattle.scan.proofs.AllRows.{all-scanned, all-put}
 use Rattle.scan.proofs.RowsSoFar.{SoFar, nothing-yet, one-more-segment}
 use Rattle.scan.proofs.scan_rows.Statement.{statement}
@@ -46,9 +44,11 @@ fit : (c : tie.At-loop Inv-loop μ-loop) →
     (a .shape .rows ≡ rowsIn (a .file .now)) × (a .shape .rows ≤ mostRows) × (a .count ≤ length (a .tests))
 fit c =
     let start = startOf c in
-    let opened = opened-is-fit _ _ (start .pre .0 .opened) in
-    let rows = ap (λ (s : Shape). s .rows) (opened .1) in
-    (rows, omega (arith, opened .0 .few-rows), omega (arith, start .pre .0 .few, start .good .1 .1 .1 .0 .1 .0 .1))
+    let opened = start .pre .0 .opened in (
+      rows-as-opened _ _ opened,
+      few-rows-as-opened _ _ opened,
+      omega (arith, start .pre .0 .few, start .good .1 .1 .1 .0 .1 .0 .1),
+    )
 
 -- no column of a test is too wide
 narrow-columns : (c : tie.At-loop Inv-loop μ-loop) →
@@ -56,7 +56,7 @@ narrow-columns : (c : tie.At-loop Inv-loop μ-loop) →
     (t : ℕ) → t < a .count → widthIn (a .file .now) (testAt (a .tests) t .column) ≤ widest
 narrow-columns c t h =
     let judged = startOf c .pre .0 in
-    narrow _ _ (judged .opened) _ (judged .columns t h) .1
+    width-as-opened _ _ (judged .opened) _ (judged .columns t h) .1
 
 plan-of-requires : tie.Need-plan-of-requires Inv-loop μ-loop
 plan-of-requires c κs = search needs

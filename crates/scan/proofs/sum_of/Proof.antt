@@ -1,7 +1,6 @@
 -- `scan::sum_of` meets its contract: the total is the sum of the counts passed, each of which four bytes hold. Assumes nothing.
-use Prim.Native.Nat.{_*_, _^_, ℕ, _+_, _-_, _≤_}
+use Prim.Native.Nat.{_*_, ℕ, _+_, _-_, _≤_}
 use native.Mathlib.Omega.{arith}
-use native.Mathlib.Nat.{le-of-lt}
 use native.Mathlib.Numerals.{add-one}
 use mathlib.Core.Path.{_≡_, refl, ap, _∙_}
 use lib.ListN.{getD}

@@ -7,7 +7,8 @@ use lib.ListN.{length, length-set}
 use Rattle.limits.specs.Limits.{mostTests, planPlaces}
 use Rattle.codes.specs.Width.{slicesOf}
 use Rattle.segment.specs.Steps.{FitLiteral, Planned}
-use Rattle.segment.proofs.Planning.{narrow, fit-literal, planned-nothing, planned-one-more}
+use Rattle.register.proofs.Fit.{width-as-opened}
+use Rattle.segment.proofs.Planning.{fit-literal, planned-nothing, planned-one-more}
 use Rattle.segment.proofs.plan_of.Statement.{statement}
 use Rattle.segment.proofs.plan_of.Tie as tie
 
@@ -91,7 +92,7 @@ loop-again c =
     let long = turn .before .loop .inv .2 in (
       omega (arith, turn .loop-test .taken),
       planned-one-more _ _ _ _ _ _ _ _ _ _ _ (turn .before .loop .inv .1)
-          (λ u h. narrow _ _ (start .pre .opened) _ (start .pre .columns u (omega (arith, turn .loop-test .taken))) .1)
+          (λ u h. width-as-opened _ _ (start .pre .opened) _ (start .pre .columns u (omega (arith, turn .loop-test .taken))) .1)
           (omega (arith, start .pre .few, turn .loop-test .taken)) (omega (arith, start .pre .few, turn .loop-test .taken))
           (slices .before .offset-at .ensures) (slices .slices-of .ensures ∙ ap slicesOf (width .width-at .ensures))
           (rw (width .width-at .ensures, literal .literal-of .ensures) at (c .plan-bytes .ensures .0))

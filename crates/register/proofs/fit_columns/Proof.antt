@@ -1,4 +1,4 @@
--- `register::judge` meets its contract: every column passed is fit, so the sum of their slices is known and small.
+-- `register::fit_columns` meets its contract: every column passed is fit, so the sum of their slices is known and small.
 -- Assumes nothing.
 use Prim.Native.Nat.{ℕ, _+_, _-_, _*_, _≤_, _<_}
 use native.Mathlib.Omega.{arith}
@@ -15,9 +15,9 @@ use Rattle.codes.specs.Width.{slicesOf}
 use Rattle.codes.proofs.Width.{few-slices-of}
 use Rattle.register.specs.Layout.{slicesBefore}
 use Rattle.register.specs.File.{entryIn, widthOf, widthIn, unfitColumn}
-use Rattle.register.proofs.Directory.{entry-cut, judged-by-entry, fit-column, one-more-column, few-bytes}
-use Rattle.register.proofs.judge.Statement.{statement}
-use Rattle.register.proofs.judge.Tie as tie
+use Rattle.register.proofs.Directory.{entry-cut, unfit-by-entry, fit-column, one-more-column, few-bytes}
+use Rattle.register.proofs.fit_columns.Statement.{statement}
+use Rattle.register.proofs.fit_columns.Tie as tie
 
 -- the columns passed are fit, and their slices are counted
 pub record Passed (file : List ℕ) (columns slices column : ℕ) : Type 0 where
@@ -62,12 +62,12 @@ here : (c : tie.In-loop Inv-loop μ-loop) → (entryOf c ≡ entryIn (fileOf c) 
 here c = entry-cut (fileOf c) (fromOf c) (c .before .loop .column) (omega arith) (omega arith)
 
 -- what was said of the entry is so of the column
-judged : (c : tie.After-unfit-entry Inv-loop μ-loop) →
+unfit-as-said : (c : tie.After-unfit-entry Inv-loop μ-loop) →
     unfitColumn (fileOf (c .before .before)) (c .before .before .before .loop .column) ≡ c .unfit-entry .result
-judged c =
+unfit-as-said c =
     let turn = c .before .before in
     let pre = turn .before .before .before .pre .0 in
-    sym (c .unfit-entry .ensures ∙ judged-by-entry (fileOf turn) (entryOf turn) _ _ _ (here turn .0) (pre .0) (turn .before .loop .inv .counted))
+    sym (c .unfit-entry .ensures ∙ unfit-by-entry (fileOf turn) (entryOf turn) _ _ _ (here turn .0) (pre .0) (turn .before .loop .inv .counted))
 
 -- a column found fit is passed
 passed : (c : tie.After-slices-of Inv-loop μ-loop) →
@@ -79,7 +79,7 @@ passed c =
     let turn = c .before .before .before .before .before in
     let loop = turn .before .loop in
     one-more-passed (fileOf turn) _ (loop .slices) (loop .column) (c .slices-of .result) (loop .inv) (omega arith)
-    (judged (c .before .before .before) ∙ c .before .before .if1 .left)
+    (unfit-as-said (c .before .before .before) ∙ c .before .before .if1 .left)
     (c .slices-of .ensures ∙ ap (λ (entry : List ℕ). slicesOf (widthOf entry)) (here turn .0))
 
 loop-holds : tie.Need-loop-holds Inv-loop μ-loop
@@ -114,7 +114,7 @@ unfit-entry-requires c κs = here (c .before) .1
 returns : tie.Need-returns Inv-loop μ-loop
 returns c =
     let turn = c .before .before .before .before .loop in
-    let unfit = judged (c .before) ∙ c .if1 .taken in
+    let unfit = unfit-as-said (c .before) ∙ c .if1 .taken in
     (sym (first-is _ _ (turn .column) (omega arith) unfit (turn .inv .fit)), turn .inv .counted, turn .inv .few)
 
 shared-slice-read-slices-of : tie.Need-shared-slice-read-slices-of Inv-loop μ-loop
@@ -141,8 +141,8 @@ returns-2 c =
     let end : turn .column ≡ c .before .before .before .args .columns = omega arith in
     (end ∙ sym (first-is-none _ _ (λ k h. turn .inv .fit k (omega arith))), turn .inv .counted, turn .inv .few)
 
-pub judge-spec : {M : Type 1} → statement M
-judge-spec =
+pub fit-columns-spec : {M : Type 1} → statement M
+fit-columns-spec =
     tie.close
     (tie.spec
     Inv-loop
