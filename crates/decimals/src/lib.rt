@@ -64,13 +64,12 @@ fn read_digits(text: &[u8], from: usize, after: After, begun: u64, most: u64) ->
     Number::NoNumber
 }
 
-// Whether a number with one digit more is at most the given one, told without making it.
+// Whether a number with one digit more is at most the given one: ten times the number is, and what is
+// then left is no less than the digit.
 fn has_room(number: u64, digit: u64, most: u64) -> bool
-    requires { ⌜ digit < 10 ⌝ }
     ensures { λ r. ⌜ r ≡ leb (number * 10 + digit) most ⌝ }
 {
-    let tenth = most / 10;
-    number < tenth || number == tenth && digit <= most % 10
+    number <= most / 10 && digit <= most - number * 10
 }
 
 // The number and the place behind, if the byte after it is the one that must follow.

@@ -66,9 +66,6 @@ loop-holds c =
     let given = c .before in
     first-digit (omega arith) _ _ (given .pre .2) (given .pre .0) (given .pre .1) (omega arith)
 
-has-room-requires : tie.Need-has-room-requires Inv-loop μ-loop
-has-room-requires c κs = small-digit c
-
 returns : tie.Need-returns Inv-loop μ-loop
 returns c =
     let read = c .before .before in
@@ -110,7 +107,7 @@ read-digits-spec =
     (λ c. omega arith)
     (λ c κs. search needs)
     (λ c. omega arith)
-    has-room-requires
+    (λ c κs. search needs)
     returns
     mul-number
     add-number
