@@ -11,10 +11,13 @@ use Rattle.listing.specs.Inputs.{unreadInputs}
 use Rattle.list_parts.specs.declared.Printed.{Printed}
 use Rattle.list_parts.specs.Printing.{isRead, PrintedOf}
 
-module _ (taken given : Taken) (file text : List ℕ) (file-there : countOf taken ≤ length file) (text-there : countOf given ≤ length text) where
+module _ (taken given : Taken) (file text : List ℕ) (in-file : countOf taken ≤ length file) (in-text : countOf given ≤ length text) where
   pub printed-of-taken : {read has : Bool} {n m : ℕ} {printed : Printed} → read ≡ isRead taken → has ≡ isRead given → n ≡ countOf taken →
-      m ≡ countOf given → PrintedOf (unreadInputs read (length (take n file)) has (length (take m text))) (take n file) (take m text) printed →
+      m ≡ countOf given →
+      PrintedOf (unreadInputs read (length (take n file)) has (length (take m text))) (take n file) (take m text) printed →
       PrintedOf (unreadInputs (isRead taken) (countOf taken) (isRead given) (countOf given)) (take (countOf taken) file)
       (take (countOf given) text) printed
   printed-of-taken was had so-many as-many printed =
-      rw (was, had, so-many, as-many, length-take-le (countOf taken) file file-there, length-take-le (countOf given) text text-there) at printed
+      let of-file = length-take-le (countOf taken) file in-file in
+      let of-text = length-take-le (countOf given) text in-text in
+      rw (was, had, so-many, as-many, of-file, of-text) at printed

@@ -38,7 +38,8 @@ found-rows file size query out granted =
     those-same (marked (leftIn file size query out)) is (below (rowsIn file))
     (λ row m. rw (bit-left file size query out granted row (in-below (rowsIn file) row m)) (one-or-none (is row)))
 
-pub reads-small : {text : List ℕ} {asked : Asked} → Reads text asked → (asked .query .count ≤ mostTests) × (length (asked .query .tests) ≡ mostTests)
+pub reads-small : {text : List ℕ} {asked : Asked} → Reads text asked →
+    (asked .query .count ≤ mostTests) × (length (asked .query .tests) ≡ mostTests)
 reads-small (read size tests formed few) = (few, length-filled emptySlot mostTests tests)
 reads-small (too-many size tests formed many) = (omega arith, length-filled emptySlot mostTests [])
 reads-small (no-segment text none) = (omega arith, length-filled emptySlot mostTests [])
@@ -49,4 +50,5 @@ pub columns-below : (file : List ℕ) (size : ℕ) (query : Query) (room : ℕ) 
 columns-below file size query room granted few slots t inside =
     let long : length (testsOf query) ≡ query .count = length-take (query .count) (query .tests) ∙ rw slots (omega arith) in
     let here = at-is-member (testsOf query) t emptySlot (omega arith) in
-    rw (getD-take (query .count) (query .tests) t emptySlot inside) at (fits file size query room granted (getD (testsOf query) t emptySlot) here .column)
+    let fit = fits file size query room granted (getD (testsOf query) t emptySlot) here in
+    rw (getD-take (query .count) (query .tests) t emptySlot inside) at (fit .column)

@@ -60,7 +60,8 @@ first-told first second lines = go (eqb (first .number) 0) refl
     go false e = rw (e, e)
 
 -- lines that are the same where nothing is refused
-same-lines : (refusal : Refusal) (lines more : List ℕ) → (refusal .number ≡ 0 → lines ≡ more) → refusedOr refusal lines ≡ refusedOr refusal more
+same-lines : (refusal : Refusal) (lines more : List ℕ) → (refusal .number ≡ 0 → lines ≡ more) →
+    refusedOr refusal lines ≡ refusedOr refusal more
 same-lines refusal lines more same = go (eqb (refusal .number) 0) refl
   where
     go : (b : Bool) → eqb (refusal .number) 0 ≡ b → refusedOr refusal lines ≡ refusedOr refusal more

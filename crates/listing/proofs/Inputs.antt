@@ -1,6 +1,7 @@
 -- What is found of inputs, by whether both are taken, and what is printed of that. Assumes nothing.
 --   file-unread, text-unread    18, for the file or for the text
 --   both-read                   what the listing of the two shows
+--   told-18                     what is listed then is its line
 --   listed-of-inputs            a piece of what was found is a piece of what is printed
 --   length-of-inputs            and is as long in all
 --   inputs-can-be-listed        and can be written
@@ -40,11 +41,12 @@ module _ (file text bits : List ℕ) (found : Found) where
   numbered : found .refusal ≡ refusal18 → found .refusal .number ≡ 0 → ⊥
   numbered told none = let is = ap (λ (r : Refusal). r .number) told in absurd (omega arith)
 
-  told-18 : found .refusal ≡ refusal18 → foundLines file bits found ≡ refusedLine refusal18
+  pub told-18 : found .refusal ≡ refusal18 → foundLines file bits found ≡ refusedLine refusal18
   told-18 told = refusal-listed file bits found (numbered told) ∙ ap refusedLine told
 
   pub listed-of-inputs : (unread : Bool) → FoundRead unread file text bits found → (from : ℕ) (before : List ℕ) {after : List ℕ}
-      {answer : ℕ} → PieceWritten (foundLines file bits found) from before after answer → ListedRead unread file text from before after answer
+      {answer : ℕ} → PieceWritten (foundLines file bits found) from before after answer →
+      ListedRead unread file text from before after answer
   listed-of-inputs true made from before piece = rw (told-18 (made .refused refl)) at piece
   listed-of-inputs false made from before piece = listed-in file text bits found (made .listed refl) from before piece
 

@@ -6,3 +6,4 @@ pub mod Outcomes
 pub mod FoundListing
 pub mod Inputs
 pub mod SingleReply
+pub mod Lengths

@@ -41,5 +41,7 @@ ListedRead unread file text from before after answer =
 -- how many bytes that has in all
 abbrev pub PrintLength : Bool → List ℕ → List ℕ → ℕ → Type 0
 PrintLength unread file text bytes =
-    elim unread as (λ unread. Type 0)
-    [ true ↦ bytes ≡ length (refusedLine refusal18) | false ↦ (asked : Asked) × (Reads text asked × (bytes ≡ length (listingOf file asked))) ]
+    elim unread as (λ unread. Type 0) [
+      | true ↦ bytes ≡ length (refusedLine refusal18)
+      | false ↦ (asked : Asked) × (Reads text asked × (bytes ≡ length (listingOf file asked)))
+    ]

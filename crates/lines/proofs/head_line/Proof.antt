@@ -38,8 +38,11 @@ returns c =
     let step3 = step4 .before .before .before .before in
     let step2 = step3 .before .before .before .before .before in
     let step1 = step2 .before .before .before .before in
-    let line = written-then (step1 .put-word .ensures) (written-then (step2 .put-decimal .ensures .0) (written-then (step3 .put-word2 .ensures) (written-then (step4 .put-decimal2 .ensures .0) (step5 .put .ensures)))) in
-    (line, omega (arith, step2 .put-decimal .ensures .1, step4 .put-decimal2 .ensures .1, step1 .put-word .ensures .behind, step3 .put-word2 .ensures .behind, step5 .put .ensures .behind))
+    let matches = written-then (step3 .put-word2 .ensures) (written-then (step4 .put-decimal2 .ensures .0) (step5 .put .ensures)) in
+    let line = written-then (step1 .put-word .ensures) (written-then (step2 .put-decimal .ensures .0) matches) in
+    let first = step1 .put-word .ensures .behind in
+    let second = step3 .put-word2 .ensures .behind in
+    (line, omega (arith, step2 .put-decimal .ensures .1, step4 .put-decimal2 .ensures .1, first, second, step5 .put .ensures .behind))
 
 pub head-line-spec : {M : Type 1} → statement M
 head-line-spec =

@@ -38,8 +38,13 @@ returns c =
     let step1 = step2 .before .before .before .before in
     let start = step1 .before .before .before .before .before in
     let columns = same-columns _ (start .args .shape) (start .pre .1) in
-    let line = written-then (step1 .put-word .ensures) (written-then (step2 .put-decimal .ensures .0) (written-then (step3 .put .ensures) (written-then (rw columns at (step4 .put-cells .ensures .0)) (step5 .put2 .ensures)))) in
-    (line, omega (arith, step2 .put-decimal .ensures .1, step4 .put-cells .ensures .1, step1 .put-word .ensures .behind, step3 .put .ensures .behind, step5 .put2 .ensures .behind))
+    let codes = written-then (rw columns at (step4 .put-cells .ensures .0)) (step5 .put2 .ensures) in
+    let number = written-then (step2 .put-decimal .ensures .0) (written-then (step3 .put .ensures) codes) in
+    let word = step1 .put-word .ensures .behind in
+    let mark = step3 .put .ensures .behind in (
+      written-then (step1 .put-word .ensures) number,
+      omega (arith, step2 .put-decimal .ensures .1, step4 .put-cells .ensures .1, word, mark, step5 .put2 .ensures .behind),
+    )
 
 pub row-line-spec : {M : Type 1} → statement M
 row-line-spec =

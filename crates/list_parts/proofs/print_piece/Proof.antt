@@ -20,10 +20,11 @@ returns : tie.Need-returns
 returns c =
     let chosen = c .before .before in
     let made = chosen .before .before .before .before in
+    let buffer = made .write-found .last .1 .1 .1 .1 .0 in
     record {
       made = made .write-found .ensures;
-      taken = omega (arith, c .put-all .ensures, length-take-le (chosen .least .result) (made .write-found .last .1 .1 .1 .1 .0) (there chosen));
-      wanted = chosen .least .ensures ∙ ap (min (length (made .write-found .last .1 .1 .1 .1 .0))) (chosen .before .left .ensures);
+      taken = omega (arith, c .put-all .ensures, length-take-le (chosen .least .result) buffer (there chosen));
+      wanted = chosen .least .ensures ∙ ap (min (length buffer)) (chosen .before .left .ensures);
     }
 
 pub print-piece-spec : {M : Type 1} → statement M

@@ -19,7 +19,8 @@ returns c =
     let given = printed .before .before .before in
     let taken = given .before .before in
     let start = taken .before .before .before .before .before .before in
-    printed-of-taken (start .args .taken) (start .args .given) (start .args .file .now) (start .args .text .now) (start .pre .1) (start .pre .2)
+    let a = start .args in
+    printed-of-taken (a .taken) (a .given) (a .file .now) (a .text .now) (start .pre .1) (start .pre .2)
     (taken .is-read .ensures) (given .is-read2 .ensures) (taken .before .before .bytes-of .ensures) (taken .before .bytes-of2 .ensures)
     (printed .print-listing .ensures)
 

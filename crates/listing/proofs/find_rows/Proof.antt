@@ -25,21 +25,6 @@ scan-is c =
     let asked = startOf c .args .asked in
     c .scan .ensures .0 ∙ ap (scannedOf (startOf c .args .file .now) (asked .size) (asked .query)) (as-long c)
 
-open-requires : tie.Need-open-requires
-open-requires c κs = search needs
-
-enum-known-opened : tie.Need-enum-known-opened
-enum-known-opened c = search needs
-
-enum-told : tie.Need-enum-told
-enum-told c = search needs
-
-refusal-of-requires : tie.Need-refusal-of-requires
-refusal-of-requires c κs = search needs
-
-refused-requires : tie.Need-refused-requires
-refused-requires c κs = search needs
-
 returns : tie.Need-returns
 returns c =
     let passed = c .before in
@@ -47,9 +32,6 @@ returns c =
     let answered = passed .before .before .before in
     not-opened _ _ (answered .before .before .pre) _ (sym (answered .«open» .ensures .0) ∙ told)
     (c .refused .ensures ∙ passed .refusal-of .ensures ∙ ap refusalOf told)
-
-scan-requires : tie.Need-scan-requires
-scan-requires c κs = search needs
 
 returns-2 : tie.Need-returns-2
 returns-2 c =
@@ -62,11 +44,11 @@ pub find-rows-spec : {M : Type 1} → statement M
 find-rows-spec =
     tie.close
     (tie.spec
-    open-requires
-    enum-known-opened
-    enum-told
-    refusal-of-requires
-    refused-requires
+    (λ c κs. search needs)
+    (λ c. search needs)
+    (λ c. search needs)
+    (λ c κs. search needs)
+    (λ c κs. search needs)
     returns
-    scan-requires
+    (λ c κs. search needs)
     returns-2)

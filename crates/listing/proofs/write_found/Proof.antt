@@ -12,21 +12,12 @@ startOf c = c .before .before .before .before .before
 abbrev acceptedAt : tie.After-head-line → tie.Else1
 acceptedAt c = c .before .before .before .before .before .before
 
-refused-line-requires : tie.Need-refused-line-requires
-refused-line-requires c κs = search needs
-
-same-length : tie.Need-same-length
-same-length c = search needs
-
 returns : tie.Need-returns
 returns c =
     let line = c .before .before in
     let judged = line .before .before in
     let a = judged .before .before .before .before .before .args in
     rw (refusal-listed (a .file .now) (a .bits .now) (a .found) (judged .if1 .taken)) (piece-written (line .refused-line .ensures))
-
-head-line-requires : tie.Need-head-line-requires
-head-line-requires c κs = search needs
 
 test-lines-requires : tie.Need-test-lines-requires
 test-lines-requires c κs =
@@ -40,9 +31,6 @@ row-lines-requires c κs =
     let tests = c .before .before .before .before in
     let accepted = acceptedAt (tests .before .before .before .before) in
     (tests .test-lines .ensures .1, startOf accepted .pre (accepted .if1 .left) .0)
-
-same-length-2 : tie.Need-same-length-2
-same-length-2 c = search needs
 
 returns-2 : tie.Need-returns-2
 returns-2 c =
@@ -58,11 +46,11 @@ pub write-found-spec : {M : Type 1} → statement M
 write-found-spec =
     tie.close
     (tie.spec
-    refused-line-requires
-    same-length
+    (λ c κs. search needs)
+    (λ c. search needs)
     returns
-    head-line-requires
+    (λ c κs. search needs)
     test-lines-requires
     row-lines-requires
-    same-length-2
+    (λ c. search needs)
     returns-2)

@@ -77,7 +77,7 @@ same-length c = search needs
 returns-3 : tie.Need-returns-3
 returns-3 c =
     let scanned = c .before .before in
-    let room = scanned .before .before in
+    let room = scanned .before .before .before in
     let sized = room .before in
     outcomes.scanned _ _ _ _ _ (told (sized .before)) (rw (sized .bytes-for .ensures) at (room .if1 .left))
     (scanned .scan-rows .ensures .0) (scanned .scan-rows .ensures .1)
