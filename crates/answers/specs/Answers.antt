@@ -26,13 +26,13 @@ shownOf (Elements elements) = 0 ∷ 0 ∷ 0 ∷ elements ∷ []
 shownOf (Refused refusal) = refusal .number ∷ refusal .place ∷ refusal .need ∷ 0 ∷ []
 
 -- by a table of refusals: so many elements where no line answers, or what the first line says
-abbrev pub answerOf : List Line → ℕ → Answer
+unfoldable pub answerOf : List Line → ℕ → Answer
 answerOf lines elements = answerBy (λ line. Refused (refusal line)) (Elements elements) (firstLine lines)
 
 -- what is shown, from the same table
-abbrev pub shownFor : List Line → ℕ → List ℕ
+unfoldable pub shownFor : List Line → ℕ → List ℕ
 shownFor lines elements = shownBy (elements ∷ []) (firstLine lines)
 
 -- what a buffer then holds: the list, and after it what was there before; refused, all that was there before
-abbrev pub leftBy : {A : Type 0} → List Line → List A → List A → List A
+unfoldable pub leftBy : {A : Type 0} → List Line → List A → List A → List A
 leftBy lines out list = answerBy (λ line. out) (laid out 0 list) (firstLine lines)

@@ -5,14 +5,17 @@
 --   neither      a failed "or" has failed on both sides, and
 --   nor          what fails on both sides fails
 --   both         a passed "and" has passed on both sides
+--   left-holds, right-holds    an "or" holds where either side does
+--   differs, agrees    the test that two numbers differ holds where they do, and fails where they are the same
 --   hit, missed  what is chosen by a test that holds, and by one that does not
 --   at-most-one  of 1 and 0, whichever is chosen first
-use Prim.Native.Nat.{_≤_}
+use Prim.Native.Nat.{ℕ, _≤_}
 use native.Mathlib.Omega.{arith}
 use mathlib.Core.Path.{_≡_, refl}
 use mathlib.Core.Logic.{_⊎_, inl, inr}
 use mathlib.Core.Bool.{Bool, true, false, not, _&&_, _||_, cond, true≢false}
-use lib.Dec.{T}
+use lib.Dec.{T, eqb}
+use borrow.Author.Tests.{eq-eqb, ne-eqb}
 
 pub either : (b : Bool) → (b ≡ true) ⊎ (b ≡ false)
 either true = inl refl
@@ -38,6 +41,19 @@ neither false b h = (refl, h)
 
 pub nor : (a b : Bool) → a ≡ false → b ≡ false → (a || b) ≡ false
 nor a b e d = rw (e, d)
+
+pub left-holds : (a b : Bool) → a ≡ true → (a || b) ≡ true
+left-holds a b e = rw e
+
+pub right-holds : (a b : Bool) → b ≡ true → (a || b) ≡ true
+right-holds true b e = refl
+right-holds false b e = e
+
+pub differs : (m n : ℕ) → (m ≡ n → ⊥) → not (eqb m n) ≡ true
+differs m n h = rw (ne-eqb m n h)
+
+pub agrees : (m n : ℕ) → m ≡ n → not (eqb m n) ≡ false
+agrees m n h = rw (eq-eqb m n h)
 
 pub both : (a b : Bool) → T (a && b) → T a × T b
 both true b h = (tt, h)

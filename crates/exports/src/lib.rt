@@ -3,16 +3,15 @@
 // where there is one. A query passes as its text.
 mod replies;
 
+use limits::ANSWER_NUMBERS;
 use limits::MOST_TESTS;
+use limits::OPEN_NUMBERS;
 use limits::READ_NUMBERS;
 use limits::SCAN_NUMBERS;
-use replies::listed_reply;
-use replies::looked_up_reply;
-use replies::measured_reply;
+use replies::answer_reply;
 use replies::opened_reply;
 use replies::read_reply;
 use replies::scanned_reply;
-use replies::written_reply;
 use scan::Scanned;
 ghost use mathlib.Core.Path.{_≡_};
 ghost use lib.ListN.{length};
@@ -25,7 +24,7 @@ ghost use Rattle.exports.specs.Asked.{ReadReplied, ScanReplied};
 
 // Opens a file. Values: rows, columns.
 #[no_mangle]
-pub extern "C" fn bsl_open(file: &[u8], reply: &mut [u64; 5])
+pub extern "C" fn bsl_open(file: &[u8], reply: &mut [u64; OPEN_NUMBERS])
     ensures { λ _. ⌜ now (reply .exit) ≡ opening.shownFor (now (file .entry)) ⌝ }
 {
     let opened = register::open(file);
@@ -34,12 +33,12 @@ pub extern "C" fn bsl_open(file: &[u8], reply: &mut [u64; 5])
 
 // Answers the width of every column. Value: how many columns.
 #[no_mangle]
-pub extern "C" fn bsl_widths(file: &[u8], out: &mut [u8], reply: &mut [u64; 4])
+pub extern "C" fn bsl_widths(file: &[u8], out: &mut [u8], reply: &mut [u64; ANSWER_NUMBERS])
     ensures reply { λ _. ⌜ now (reply .exit) ≡ measuring.shownFor (now (file .entry)) (length (now (out .entry))) ⌝ }
     ensures left { λ _. ⌜ now (out .exit) ≡ measuring.leftIn (now (file .entry)) (now (out .entry)) ⌝ }
 {
     let measured = register::widths(file, out);
-    *reply = measured_reply(measured);
+    *reply = answer_reply(measured);
 }
 
 // Writes a register's file. Value: its bytes.
@@ -49,13 +48,13 @@ pub extern "C" fn bsl_write(
     widths: &[u8],
     codes: &[u64],
     out: &mut [u8],
-    reply: &mut [u64; 4],
+    reply: &mut [u64; ANSWER_NUMBERS],
 )
     ensures reply { λ _. ⌜ now (reply .exit) ≡ writing.shownFor rows (now (widths .entry)) (now (codes .entry)) (length (now (out .entry))) ⌝ }
     ensures left { λ _. ⌜ now (out .exit) ≡ writing.leftIn rows (now (widths .entry)) (now (codes .entry)) (now (out .entry)) ⌝ }
 {
     let written = writer::write(rows, widths, codes, out);
-    *reply = written_reply(written);
+    *reply = answer_reply(written);
 }
 
 // Reads a query's text. Values: size, count, then column, comparison and literal of each of 16 slots.
@@ -98,12 +97,17 @@ pub extern "C" fn bsl_scan(
 
 // Lists the rows whose bit is set. Value: how many.
 #[no_mangle]
-pub extern "C" fn bsl_list(rows: usize, bits: &[u8], out: &mut [u32], reply: &mut [u64; 4])
+pub extern "C" fn bsl_list(
+    rows: usize,
+    bits: &[u8],
+    out: &mut [u32],
+    reply: &mut [u64; ANSWER_NUMBERS],
+)
     ensures reply { λ _. ⌜ now (reply .exit) ≡ listing.shownFor rows (now (bits .entry)) (length (now (out .entry))) ⌝ }
     ensures left { λ _. ⌜ now (out .exit) ≡ listing.leftIn rows (now (bits .entry)) (now (out .entry)) ⌝ }
 {
     let listed = rows::list(rows, bits, out);
-    *reply = listed_reply(listed);
+    *reply = answer_reply(listed);
 }
 
 // Looks up the codes of rows in a column. Value: how many.
@@ -113,11 +117,11 @@ pub extern "C" fn bsl_lookup(
     column: usize,
     rows: &[u32],
     out: &mut [u64],
-    reply: &mut [u64; 4],
+    reply: &mut [u64; ANSWER_NUMBERS],
 )
     ensures reply { λ _. ⌜ now (reply .exit) ≡ looking.shownFor (now (file .entry)) column (now (rows .entry)) (length (now (out .entry))) ⌝ }
     ensures left { λ _. ⌜ now (out .exit) ≡ looking.leftIn (now (file .entry)) column (now (rows .entry)) (now (out .entry)) ⌝ }
 {
     let looked_up = lookup::look_up(file, column, rows, out);
-    *reply = looked_up_reply(looked_up);
+    *reply = answer_reply(looked_up);
 }

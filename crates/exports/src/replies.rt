@@ -1,26 +1,21 @@
 // Replies as arrays of numbers: number, place and need of a refusal, then the values.
+use answers::Answer;
 use answers::Refusal;
+use limits::ANSWER_NUMBERS;
 use limits::MOST_TESTS;
+use limits::OPEN_NUMBERS;
 use limits::READ_NUMBERS;
 use limits::SCAN_NUMBERS;
-use lookup::LookedUp;
 use query::Comparison;
 use query::Test;
-use register::Measured;
 use register::Opened;
-use rows::Listed;
 use scan::Scanned;
-use writer::Written;
 ghost use mathlib.Core.Path.{_≡_};
-ghost use mathlib.Core.List.{[], _∷_};
+ghost use Rattle.answers.specs.Answers as answers;
 ghost use Rattle.register.specs.Answers as register;
-ghost use Rattle.register.specs.Widths as measuring;
-ghost use Rattle.writer.specs.Answers as writer;
-ghost use Rattle.lookup.specs.Answers as lookup;
-ghost use Rattle.rows.specs.Answers as rows;
 ghost use Rattle.exports.specs.Replies.{kindOf, readReply, scanReply};
 
-pub fn opened_reply(opened: Opened) -> [u64; 5]
+pub fn opened_reply(opened: Opened) -> [u64; OPEN_NUMBERS]
     ensures { λ r. ⌜ r ≡ register.shownOf opened ⌝ }
 {
     match opened {
@@ -35,51 +30,18 @@ pub fn opened_reply(opened: Opened) -> [u64; 5]
     }
 }
 
-pub fn measured_reply(measured: Measured) -> [u64; 4]
-    ensures { λ r. ⌜ r ≡ measuring.shownOf measured ⌝ }
+pub fn answer_reply(answer: Answer) -> [u64; ANSWER_NUMBERS]
+    ensures { λ r. ⌜ r ≡ answers.shownOf answer ⌝ }
 {
-    match measured {
-        Measured::Columns(columns) => [0, 0, 0, columns as u64],
-        Measured::Refused(refusal) => refused_reply(refusal),
+    match answer {
+        Answer::Elements(elements) => [0, 0, 0, elements as u64],
+        Answer::Refused(refused) => [
+            refused.number as u64,
+            refused.place as u64,
+            refused.need as u64,
+            0,
+        ],
     }
-}
-
-pub fn written_reply(written: Written) -> [u64; 4]
-    ensures { λ r. ⌜ r ≡ writer.shownOf written ⌝ }
-{
-    match written {
-        Written::Bytes(bytes) => [0, 0, 0, bytes as u64],
-        Written::Refused(refusal) => refused_reply(refusal),
-    }
-}
-
-pub fn looked_up_reply(looked_up: LookedUp) -> [u64; 4]
-    ensures { λ r. ⌜ r ≡ lookup.shownOf «looked_up» ⌝ }
-{
-    match looked_up {
-        LookedUp::Codes(codes) => [0, 0, 0, codes as u64],
-        LookedUp::Refused(refusal) => refused_reply(refusal),
-    }
-}
-
-pub fn listed_reply(listed: Listed) -> [u64; 4]
-    ensures { λ r. ⌜ r ≡ rows.shownOf listed ⌝ }
-{
-    match listed {
-        Listed::Rows(rows) => [0, 0, 0, rows as u64],
-        Listed::Refused(refusal) => refused_reply(refusal),
-    }
-}
-
-fn refused_reply(refusal: Refusal) -> [u64; 4]
-    ensures { λ r. ⌜ r ≡ (refusal .number ∷ refusal .place ∷ refusal .need ∷ 0 ∷ []) ⌝ }
-{
-    [
-        refusal.number as u64,
-        refusal.place as u64,
-        refusal.need as u64,
-        0,
-    ]
 }
 
 pub fn read_reply(

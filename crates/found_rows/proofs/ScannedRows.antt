@@ -12,6 +12,8 @@ use lib.Seq.{take-at}
 use Rattle.basis.specs.Lists.{those, below}
 use Rattle.basis.proofs.Buffers.{laid-front}
 use Rattle.basis.proofs.Those.{length-those}
+use Rattle.answers.specs.declared.Answer.the-variants.{Elements}
+use Rattle.answers.specs.Answers.{answerOf}
 use Rattle.register.specs.File.{rowsIn}
 use Rattle.register.proofs.Fit.{opened-is-fit}
 use Rattle.query.specs.declared.Query.{Query}
@@ -25,7 +27,6 @@ use Rattle.bits.proofs.FoundBits.{found-are-marked, fit-bits}
 use Rattle.scan.specs.Answers.{foundBits, scannedOf, accepted, leftIn as scanLeft}
 use Rattle.scan.proofs.LeftBits.{left-is}
 use Rattle.scan.proofs.Accepting.{Accepted, reply, opens}
-use Rattle.rows.specs.declared.Listed.the-variants.{Rows}
 use Rattle.rows.specs.RowList.{listedOf}
 use Rattle.rows.proofs.Outcomes.{none-answers}
 
@@ -55,9 +56,9 @@ module _ (file : List ℕ) (size : ℕ) (query : Query) (out : List ℕ) (yes : 
       ∙ sym (ap (λ scanned. scanned .matches) (reply file size query (length out) yes))
 
   pub list-answers : (room : ℕ) → scannedOf file size query (length out) .matches ≤ room →
-      listedOf (rowsIn file) bits room ≡ Rows (scannedOf file size query (length out) .matches)
-  unfolding listedOf
+      listedOf (rowsIn file) bits room ≡ Elements (scannedOf file size query (length out) .matches)
+  unfolding answerOf
   list-answers room fits =
       let few = opened-is-fit file _ (opens file size query (length out) yes) .0 .few-rows in
       let fit = ap (unfitBits (rowsIn file)) bits-left ∙ fit-bits isFound (rowsIn file) in
-      rw (none-answers (rowsIn file) bits room few fit (rw lists-as-many fits)) (ap Rows lists-as-many)
+      rw (none-answers (rowsIn file) bits room few fit (rw lists-as-many fits)) (ap Elements lists-as-many)

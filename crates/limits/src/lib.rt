@@ -21,7 +21,12 @@ pub const MOST_TESTS: usize = 16;
 
 pub const DECIMAL_LIMIT: u64 = 4294967296;
 
-// Replies in numbers: reading answers five and three for each slot, scanning five and one for each.
+// Replies in numbers: a refusal's three, and then opening answers two, a call that writes one, reading two and three for each slot,
+// scanning two and one for each.
+pub const OPEN_NUMBERS: usize = 5;
+
+pub const ANSWER_NUMBERS: usize = 4;
+
 pub const READ_NUMBERS: usize = 5 + 3 * MOST_TESTS;
 
 pub const SCAN_NUMBERS: usize = 5 + MOST_TESTS;

@@ -4,10 +4,10 @@
 use mathlib.Core.Path.{_≡_}
 use denote.Ref.{now}
 use Rattle.basis.proofs.SingleReply.{single-reply}
-use Rattle.lookup.specs.declared.LookedUp.{LookedUp}
+use Rattle.answers.specs.declared.Answer.{Answer}
 use Rattle.lookup.proofs.look_up.Reads.{Post as LooksUp}
 
-pub one-lookup : (κs : _) (lent : _) (reply other : LookedUp) (exit exit′ : _) →
+pub one-lookup : (κs : _) (lent : _) (reply other : Answer) (exit exit′ : _) →
     LooksUp κs lent reply exit → LooksUp κs lent other exit′ → (reply ≡ other) × (now (exit .1 .1 .1 .0) ≡ now (exit′ .1 .1 .1 .0))
 one-lookup κs lent reply other exit exit′ first second =
     (single-reply (first .0) (second .0), single-reply (first .1 .1) (second .1 .1))

@@ -1,4 +1,3 @@
 -- Looking codes up by row.
-pub mod Answers
 pub mod LookingUp
 pub mod Steps

@@ -4,14 +4,12 @@ use mathlib.Core.List.{List, [], _∷_, _++_, map}
 use lib.Dec.{leb, ltb}
 use lib.ListN.{length, getD}
 use Rattle.basis.specs.Places.{firstPlace}
-use Rattle.basis.specs.Refusals.{Line, refuse, refuseAt, refuseFor, firstLine, answerBy, shownBy}
-use Rattle.basis.specs.Buffers.{laid}
+use Rattle.basis.specs.Refusals.{Line, refuse, refuseAt, refuseFor}
+use Rattle.answers.specs.declared.Answer.{Answer}
+use Rattle.answers.specs.Answers as answers
 use Rattle.register.specs.File.{rowsIn, columnsIn}
 use Rattle.register.specs.Cells.{codeAt}
-use Rattle.answers.specs.Answers.{refusal}
 use Rattle.register.specs.Opening.{openLines}
-use Rattle.lookup.specs.declared.LookedUp.{LookedUp}
-use Rattle.lookup.specs.declared.LookedUp.the-variants.{Codes, Refused}
 
 -- the lowest index in the list of a row number that is not below the rows
 abbrev pub firstMissing : ℕ → List ℕ → ℕ
@@ -37,14 +35,13 @@ module _ (file : List ℕ) (column : ℕ) (list : List ℕ) (room : ℕ) where
   lookUpLines = openLines file ++ ownLines
 
   -- the answer
-  unfoldable pub lookedUpOf : LookedUp
-  lookedUpOf = answerBy (λ line. Refused (refusal line)) (Codes (length list)) (firstLine lookUpLines)
+  abbrev pub lookedUpOf : Answer
+  lookedUpOf = answers.answerOf lookUpLines (length list)
 
   -- what is shown, from the same table
-  unfoldable pub shownFor : List ℕ
-  shownFor = shownBy (length list ∷ []) (firstLine lookUpLines)
+  abbrev pub shownFor : List ℕ
+  shownFor = answers.shownFor lookUpLines (length list)
 
 -- what the output then holds: the codes, and after them what was there before; refused, all that was there before
-unfoldable pub leftIn : List ℕ → ℕ → List ℕ → List ℕ → List ℕ
-leftIn file column list out =
-    answerBy (λ line. out) (laid out 0 (codesOf file column list)) (firstLine (lookUpLines file column list (length out)))
+abbrev pub leftIn : List ℕ → ℕ → List ℕ → List ℕ → List ℕ
+leftIn file column list out = answers.leftBy (lookUpLines file column list (length out)) out (codesOf file column list)

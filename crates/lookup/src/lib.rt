@@ -1,36 +1,31 @@
 // Looks codes up: a column and a list of rows, in any order and with repeats, give one code each.
-use answers::Refusal;
+use answers::Answer;
+use answers::refused;
 use register::Opened;
 use register::Shape;
 ghost use mathlib.Core.Path.{_≡_};
 ghost use Prim.Native.Nat.{_<_, _≤_};
 ghost use lib.ListN.{length, getD};
 ghost use Rattle.basis.specs.Buffers.{laid};
+ghost use Rattle.answers.specs.Answers.{shownOf};
 ghost use Rattle.register.specs.declared.Opened.the-variants.{Register};
 ghost use Rattle.register.specs.Opening.{openedOf};
 ghost use Rattle.register.specs.Cells.{codeAt};
 ghost use Rattle.limits.specs.Limits.{widest};
 ghost use Rattle.codes.specs.Bytes.{joined};
 ghost use Rattle.lookup.specs.Steps.{AllBelow, NoneAbove, RowWithin, place, gathered};
-ghost use Rattle.lookup.specs.Answers.{refusedWith, shownOf};
 ghost use Rattle.lookup.specs.LookingUp.{firstMissing, codesOf, lookedUpOf, shownFor, leftIn};
-
-// The answer to looking up: how many codes were written, or the refusal.
-pub enum LookedUp {
-    Codes(usize),
-    Refused(Refusal),
-}
 
 // Writes the code that each listed row has in a column to the front of `out`. Refused, it changes
 // nothing.
-pub fn look_up(file: &[u8], column: usize, rows: &[u32], out: &mut [u64]) -> LookedUp
+pub fn look_up(file: &[u8], column: usize, rows: &[u32], out: &mut [u64]) -> Answer
     ensures answer { λ r. ⌜ r ≡ lookedUpOf (now (file .entry)) column (now (rows .entry)) (length (now (out .entry))) ⌝ }
     ensures shown { λ r. ⌜ shownOf r ≡ shownFor (now (file .entry)) column (now (rows .entry)) (length (now (out .entry))) ⌝ }
     ensures left { λ r. ⌜ now (out .exit) ≡ leftIn (now (file .entry)) column (now (rows .entry)) (now (out .entry)) ⌝ }
 {
     let opened = register::open(file);
     let Opened::Register(shape) = opened else {
-        return LookedUp::Refused(register::refusal_of(opened));
+        return Answer::Refused(register::refusal_of(opened));
     };
     if shape.columns <= column {
         return refused(12, 0, 0);
@@ -43,17 +38,7 @@ pub fn look_up(file: &[u8], column: usize, rows: &[u32], out: &mut [u64]) -> Loo
         return refused(10, 0, rows.len());
     }
     write_codes(file, shape, column, rows, out);
-    LookedUp::Codes(rows.len())
-}
-
-fn refused(number: usize, place: usize, need: usize) -> LookedUp
-    ensures { λ r. ⌜ r ≡ refusedWith number place need ⌝ }
-{
-    LookedUp::Refused(Refusal {
-        number,
-        place,
-        need,
-    })
+    Answer::Elements(rows.len())
 }
 
 fn wide(row: u32) -> usize

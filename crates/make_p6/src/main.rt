@@ -1,7 +1,7 @@
 // Prints the file of the example register of ten rows, two columns of 11 and 3 bits, as the writer makes it. Where not all of
 // it can be written it says so on standard error.
+use answers::Answer;
 use libc::STDOUT_FILENO;
-use writer::Written;
 
 fn main() {
     let widths = [11u8, 3];
@@ -29,7 +29,7 @@ fn main() {
     ];
     // as long as the file
     let mut out = [0u8; 62];
-    let Written::Bytes(bytes) = writer::write(10, &widths, &codes, &mut out) else {
+    let Answer::Elements(bytes) = writer::write(10, &widths, &codes, &mut out) else {
         return;
     };
     if files::put_all(STDOUT_FILENO, &out) < bytes {

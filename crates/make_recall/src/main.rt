@@ -1,8 +1,8 @@
 // Prints the file of an example register as a recall meets it, as the writer makes it: 10,000 pickups, and of each the
 // crystal lot (12 bits), the board issue (5), the test bench (4) and the site (3). The codes follow from the row alone.
 // Where not all of the file can be written it says so on standard error.
+use answers::Answer;
 use libc::STDOUT_FILENO;
-use writer::Written;
 ghost use mathlib.Core.Path.{_≡_};
 ghost use mathlib.Core.List.{map};
 ghost use lib.ListN.{length};
@@ -22,7 +22,7 @@ fn main() {
 
 fn print_register(widths: &[u8], codes: &mut [u64], out: &mut [u8]) {
     fill(codes);
-    let Written::Bytes(bytes) = writer::write(ROWS, widths, codes, out) else {
+    let Answer::Elements(bytes) = writer::write(ROWS, widths, codes, out) else {
         return;
     };
     if files::put_all(STDOUT_FILENO, out) < bytes {

@@ -28,7 +28,7 @@ use Rattle.register.specs.File.{rowsIn, columnsIn, versionIn, directoryI
 use Rattle.answers.specs.Answers.{refusal}
 use Rattle.register.specs.Opening.{firstUnfit, openLines, openedOf}
 use Rattle.register.proofs.Directory.{fit-column}
-use Rattle.register.proofs.Opening.{marked, right-version, few-rows, few-columns, directory-last, all-fit, accepted}
+use Rattle.register.proofs.Opening.{marked, right-version, few-rows, few-columns, directory-last, all-fit, body-last, opened-by}
 
 pub record Fit (file : List ℕ) : Type 0 where
   pub long : trailerBytes ≤ length file
@@ -99,4 +99,4 @@ fit-is-opened file fit =
     let one = marked file (fit .long) (fit .marked) in
     let three = few-rows file (right-version file one (fit .version)) (fit .few-rows) in
     let five = directory-last file (few-columns file three (fit .some-columns) (fit .few-columns)) (fit .placed) in
-    accepted file (all-fit file five (omega arith)) (fit .whole)
+    sym (opened-by file (body-last file (all-fit file five (omega arith)) (fit .whole)) refl .0)

@@ -2,7 +2,6 @@
 pub mod Opening
 pub mod Fit
 pub mod PassedOn
-pub mod Measuring
 pub mod SingleReply
 pub mod Directory
 pub mod Body

@@ -6,8 +6,8 @@
 use mathlib.Core.Path.{_≡_}
 use denote.Ref.{now}
 use Rattle.basis.proofs.SingleReply.{single-reply}
+use Rattle.answers.specs.declared.Answer.{Answer}
 use Rattle.register.specs.declared.Opened.{Opened}
-use Rattle.register.specs.declared.Measured.{Measured}
 use Rattle.register.proofs.open.Reads.{Post as Opens}
 use Rattle.register.proofs.widths.Reads.{Post as Measures}
 
@@ -15,7 +15,7 @@ pub one-opening : (κs : _) (lent : _) (reply other : Opened) (exit exit′ : _)
     Opens κs lent reply exit → Opens κs lent other exit′ → reply ≡ other
 one-opening κs lent reply other exit exit′ first second = single-reply (first .0) (second .0)
 
-pub one-measuring : (κs : _) (lent : _) (reply other : Measured) (exit exit′ : _) →
+pub one-measuring : (κs : _) (lent : _) (reply other : Answer) (exit exit′ : _) →
     Measures κs lent reply exit → Measures κs lent other exit′ → (reply ≡ other) × (now (exit .1 .0) ≡ now (exit′ .1 .0))
 one-measuring κs lent reply other exit exit′ first second =
     (single-reply (first .0) (second .0), single-reply (first .1 .1) (second .1 .1))

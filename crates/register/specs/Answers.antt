@@ -2,6 +2,7 @@
 use Prim.Native.Nat.{ℕ}
 use mathlib.Core.List.{List, [], _∷_}
 use Rattle.answers.specs.declared.Refusal.{Refusal}
+use Rattle.answers.specs.Answers.{noRefusal}
 use Rattle.register.specs.declared.Opened.{Opened}
 use Rattle.register.specs.declared.Opened.the-variants.{Register, Refused}
 
@@ -11,7 +12,7 @@ refusedWith number place = Refused (record { number = number; place = place; nee
 
 -- the refusal that an answer carries; of a file that opened, all 0
 abbrev pub refusalOf : Opened → Refusal
-refusalOf (Register shape) = record { number = 0; place = 0; need = 0 }
+refusalOf (Register shape) = noRefusal
 refusalOf (Refused refusal) = refusal
 
 -- what is shown: number, place and need, then rows and columns, each 0 where there is none

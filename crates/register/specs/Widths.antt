@@ -4,12 +4,10 @@ use mathlib.Core.List.{List, [], _∷_, _++_, map}
 use lib.Dec.{ltb}
 use lib.ListN.{length}
 use Rattle.basis.specs.Lists.{below}
-use Rattle.basis.specs.Refusals.{Line, refuseFor, firstLine, answerBy, shownBy}
-use Rattle.basis.specs.Buffers.{laid}
-use Rattle.register.specs.declared.Measured.{Measured}
-use Rattle.register.specs.declared.Measured.the-variants.{Columns, Refused}
+use Rattle.basis.specs.Refusals.{Line, refuseFor}
+use Rattle.answers.specs.declared.Answer.{Answer}
+use Rattle.answers.specs.Answers as answers
 use Rattle.register.specs.File.{columnsIn, widthIn}
-use Rattle.answers.specs.Answers.{refusal}
 use Rattle.register.specs.Opening.{openLines}
 
 -- the width of every column, in their order
@@ -26,18 +24,13 @@ module _ (file : List ℕ) (room : ℕ) where
   widthsLines = openLines file ++ ownLines
 
   -- the answer
-  unfoldable pub measuredOf : Measured
-  measuredOf = answerBy (λ line. Refused (refusal line)) (Columns (columnsIn file)) (firstLine widthsLines)
+  abbrev pub measuredOf : Answer
+  measuredOf = answers.answerOf widthsLines (columnsIn file)
 
   -- what is shown, from the same table
-  unfoldable pub shownFor : List ℕ
-  shownFor = shownBy (columnsIn file ∷ []) (firstLine widthsLines)
-
--- what is shown of an answer: number, place and need, and the value, each 0 where there is none
-abbrev pub shownOf : Measured → List ℕ
-shownOf (Columns columns) = 0 ∷ 0 ∷ 0 ∷ columns ∷ []
-shownOf (Refused refusal) = refusal .number ∷ refusal .place ∷ refusal .need ∷ 0 ∷ []
+  abbrev pub shownFor : List ℕ
+  shownFor = answers.shownFor widthsLines (columnsIn file)
 
 -- what the output then holds: the widths, and after them what was there before; refused, all that was there before
-unfoldable pub leftIn : List ℕ → List ℕ → List ℕ
-leftIn file out = answerBy (λ line. out) (laid out 0 (widthsOf file)) (firstLine (widthsLines file (length out)))
+abbrev pub leftIn : List ℕ → List ℕ → List ℕ
+leftIn file out = answers.leftBy (widthsLines file (length out)) out (widthsOf file)

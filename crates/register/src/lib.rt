@@ -1,5 +1,6 @@
 // A register's file: opening it, and what its directory says of a column. The file is lent as a
 // slice of bytes, is read where it lies and is never changed.
+use answers::Answer;
 use answers::Refusal;
 use limits::ENTRY_BYTES;
 use limits::MOST_COLUMNS;
@@ -11,6 +12,7 @@ ghost use lib.ListN.{length};
 ghost use Rattle.basis.specs.Numbers.{little};
 ghost use Rattle.basis.specs.Places.{firstPlace};
 ghost use Rattle.limits.specs.Limits.{mostRows, mostColumns, mostSlices, entryBytes, trailerBytes, fourBytes};
+ghost use Rattle.answers.specs.Answers as answers;
 ghost use Rattle.register.specs.Layout.{slicesBefore};
 ghost use Rattle.register.specs.File.{rowsIn, directoryIn, entryIn, widthIn, offsetIn, unfitEntry, unfitColumn};
 ghost use Rattle.register.specs.Trailer.{TrailerRead};
@@ -31,13 +33,6 @@ pub struct Shape {
 // The answer to opening a file.
 pub enum Opened {
     Register(Shape),
-    Refused(Refusal),
-}
-
-// The answer to asking for the widths: how many columns there are, each with its width in the
-// output, or the refusal.
-pub enum Measured {
-    Columns(usize),
     Refused(Refusal),
 }
 
@@ -99,25 +94,21 @@ pub fn open(file: &[u8]) -> Opened
 }
 
 // Writes the width of every column to the front of `out`. Refused, it changes nothing.
-pub fn widths(file: &[u8], out: &mut [u8]) -> Measured
+pub fn widths(file: &[u8], out: &mut [u8]) -> Answer
     ensures answer { λ r. ⌜ r ≡ measuring.measuredOf (now (file .entry)) (length (now (out .entry))) ⌝ }
-    ensures shown { λ r. ⌜ measuring.shownOf r ≡ measuring.shownFor (now (file .entry)) (length (now (out .entry))) ⌝ }
+    ensures shown { λ r. ⌜ answers.shownOf r ≡ measuring.shownFor (now (file .entry)) (length (now (out .entry))) ⌝ }
     ensures left { λ r. ⌜ now (out .exit) ≡ measuring.leftIn (now (file .entry)) (now (out .entry)) ⌝ }
 {
     let opened = open(file);
     let Opened::Register(shape) = opened else {
-        return Measured::Refused(refusal_of(opened));
+        return Answer::Refused(refusal_of(opened));
     };
     let columns = shape.columns;
     if out.len() < columns {
-        return Measured::Refused(Refusal {
-            number: 10,
-            place: 0,
-            need: columns,
-        });
+        return answers::refused(10, 0, columns);
     }
     write_widths(file, shape, out);
-    Measured::Columns(columns)
+    Answer::Elements(columns)
 }
 
 // Writes the width of every column of an opened file to the front, in their order.
@@ -137,11 +128,7 @@ pub fn refusal_of(opened: Opened) -> Refusal
     ensures { λ r. ⌜ r ≡ refusalOf opened ⌝ }
 {
     match opened {
-        Opened::Register(_) => Refusal {
-            number: 0,
-            place: 0,
-            need: 0,
-        },
+        Opened::Register(_) => answers::no_refusal(),
         Opened::Refused(refusal) => refusal,
     }
 }

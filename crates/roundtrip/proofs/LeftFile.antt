@@ -8,13 +8,14 @@ use lib.ListN.{length, take}
 use lib.Seq.{take-at}
 use Rattle.basis.specs.Refusals.{firstLine}
 use Rattle.basis.proofs.Buffers.{laid-front}
+use Rattle.answers.specs.Answers.{leftBy}
 use Rattle.writer.specs.Layout.{fileLength, fileOf}
 use Rattle.writer.specs.Writing.{writeLines, leftIn}
 use Rattle.writer.proofs.Lengths.{length-fileOf}
 
 pub left-file : (rows : ℕ) (widths codes out : List ℕ) → firstLine (writeLines rows widths codes (length out)) ≡ none →
     take (fileLength rows widths) (leftIn rows widths codes out) ≡ fileOf rows widths codes
-unfolding leftIn
+unfolding leftBy
 left-file rows widths codes out accepted =
     let file = fileOf rows widths codes in
     rw accepted (ap (take (fileLength rows widths)) (laid-front out 0 file) ∙ take-at file _ _ (length-fileOf rows widths codes))

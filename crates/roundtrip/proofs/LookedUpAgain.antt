@@ -12,10 +12,11 @@ use Rattle.basis.proofs.Places.{first-is-none}
 use Rattle.register.specs.Cells.{codeAt}
 use Rattle.table.specs.Table.{codeOf, FitWidths, FitCodes}
 use Rattle.writer.specs.Layout.{fileOf}
-use Rattle.lookup.specs.declared.LookedUp.the-variants.{Codes}
+use Rattle.answers.specs.declared.Answer.the-variants.{Elements}
+use Rattle.answers.proofs.Replies.{accepted-by}
 use Rattle.lookup.specs.LookingUp.{firstMissing, codesOf, lookedUpOf, leftIn}
 use Rattle.lookup.specs.Steps.{AllBelow}
-use Rattle.lookup.proofs.LookingUp.{looked-up}
+use Rattle.lookup.proofs.LookingUp.{none-answers}
 use Rattle.roundtrip.proofs.Elements.{map-same}
 use Rattle.roundtrip.proofs.WrittenOpens.{written-opens}
 use Rattle.roundtrip.proofs.WrittenIsFound.{written-is-found}
@@ -36,11 +37,11 @@ module _ (rows : ℕ) (widths codes : List ℕ) (fit-widths : FitWidths widths) 
       (λ i h. written-is-found rows widths codes fit-widths fit-codes (getD list i 0) column (rows-there i h) column-there)
 
   pub looked-up-again : length list ≤ length into →
-      (lookedUpOf (fileOf rows widths codes) column list (length into) ≡ Codes (length list)) ×
+      (lookedUpOf (fileOf rows widths codes) column list (length into) ≡ Elements (length list)) ×
       (leftIn (fileOf rows widths codes) column list into ≡ laid into 0 (map (λ row. codeOf widths codes row column) list))
   looked-up-again room =
       let opens = written-opens rows widths codes fit-widths fit-codes in
       let present = none-missing rows list rows-there in
-      let answered =
-      looked-up (fileOf rows widths codes) column list into _ opens column-there present room refl (ap (laid into 0) (sym same-codes)) in
+      let accepted = none-answers (fileOf rows widths codes) column list (length into) _ opens column-there present room in
+      let answered = accepted-by _ (length list) _ into accepted refl (ap (laid into 0) (sym same-codes)) in
       (sym (answered .0), sym (answered .1 .1))

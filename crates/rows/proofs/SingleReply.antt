@@ -4,10 +4,10 @@
 use mathlib.Core.Path.{_≡_}
 use denote.Ref.{now}
 use Rattle.basis.proofs.SingleReply.{single-reply}
-use Rattle.rows.specs.declared.Listed.{Listed}
+use Rattle.answers.specs.declared.Answer.{Answer}
 use Rattle.rows.proofs.list.Reads.{Post as Lists}
 
-pub one-list : (κs : _) (lent : _) (reply other : Listed) (exit exit′ : _) →
+pub one-list : (κs : _) (lent : _) (reply other : Answer) (exit exit′ : _) →
     Lists κs lent reply exit → Lists κs lent other exit′ → (reply ≡ other) × (now (exit .1 .1 .0) ≡ now (exit′ .1 .1 .0))
 one-list κs lent reply other exit exit′ first second =
     (single-reply (first .0) (second .0), single-reply (first .1 .1) (second .1 .1))

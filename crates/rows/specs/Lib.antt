@@ -1,3 +1,2 @@
 -- The list of the rows whose bit is set.
-pub mod Answers
 pub mod RowList

@@ -4,6 +4,7 @@ use mathlib.Core.Path.{_≡_, refl}
 use mathlib.Core.List.{map, flatten}
 use Rattle.basis.specs.Places.{firstPlace}
 use Rattle.basis.specs.Numbers.{little, toLittle, numberAt}
+use Rattle.answers.specs.Answers.{shownFor, leftBy}
 use Rattle.codes.specs.Width.{unfitWidth, slicesOf, padOf, tooLarge}
 use Rattle.codes.specs.Bytes.{big, joined, toBig, storedOf, bytesOf, byteOf}
 use Rattle.codes.specs.Pad.{lastSlice, clearedByte}
@@ -30,9 +31,9 @@ use Rattle.settled.specs.Table.{Example, table}
 pub settled : map (λ (example : Example). answer (example .asked)) table ≡ map (λ (example : Example). example .told) table
 unfolding table twoRows tenRows tenCodes oneByte noRows joined big padOf slicesOf
     opens.shownFor opens.openLines trailerIn entryIn numberAt little mark firstPlace unfitColumn unfitEntry unfitWidth widthIn offsetIn slicesBefore
-    writes.shownFor writes.leftIn writes.writeLines fileLength fileOf bodyOf columnOf sliceOf directoryOf entryWith trailerOf trailerWith
+    shownFor leftBy writes.writeLines fileLength fileOf bodyOf columnOf sliceOf directoryOf entryWith trailerOf trailerWith
     flatten toLittle byteOf bytesOf storedOf toBig tooLarge scanReply scans.scannedOf scans.accepted scans.leftIn scans.foundBits
     bitsOf bitsAt bytesFor queryLines testsLines unfitSize byteAt standing ruledOut keepsOpen counts countIn count total found matches segmentCount
-    segment segments lastSlice clearedByte lists.shownFor lists.leftIn lists.listLines unfitBits markedPast
+    segment segments lastSlice clearedByte lists.listLines unfitBits markedPast
     markedBelow bitIn
 settled = refl

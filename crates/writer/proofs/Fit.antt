@@ -2,26 +2,23 @@
 --   widths-fit, codes-fit    the facts from the tests of widths and codes
 --   accepted-is-fit          where no line answers, widths and codes fit and there is room
 --   fit-is-accepted          and where they do, no line answers
---   written-is-accepted      an answer with a number of bytes: no line answered, and it is the file's length
 use Prim.Native.Nat.{ℕ, _*_, _%_, _≤_}
 use native.Mathlib.Omega.{arith}
-use mathlib.Core.Path.{_≡_, refl}
+use mathlib.Core.Path.{_≡_}
 use mathlib.Core.List.{List}
-use mathlib.Core.Option.{Option, none, some}
+use mathlib.Core.Option.{none}
 use lib.Dec.{eqb, ltb}
 use lib.ListN.{length, getD}
 use borrow.Author.Tests.{ltb-false, eqb-true, eqb-false, not-false}
-use Rattle.basis.specs.Refusals.{Line, answerBy, firstLine}
+use Rattle.basis.specs.Refusals.{firstLine}
 use Rattle.basis.proofs.Places.{none-before-first, first-is-none}
 use Rattle.basis.proofs.Refusals.{none-when-accepted, each-fails}
 use Rattle.basis.proofs.Truth.{neither}
 use Rattle.codes.specs.Width.{unfitWidth, tooLarge}
 use Rattle.limits.specs.Limits.{mostRows, mostColumns}
-use Rattle.answers.specs.Answers.{refusal}
-use Rattle.writer.specs.declared.Written.the-variants.{Bytes, Refused}
 use Rattle.table.specs.Table.{widthOf, FitWidths, FitCodes, firstUnfit, firstTooLarge}
 use Rattle.writer.specs.Layout.{fileLength}
-use Rattle.writer.specs.Writing.{writeLines, writtenOf}
+use Rattle.writer.specs.Writing.{writeLines}
 use Rattle.writer.proofs.Writing as writing
 
 pub widths-fit : (widths : List ℕ) → (length widths ≡ 0 → ⊥) → length widths ≤ mostColumns → length widths ≤ firstUnfit widths →
@@ -67,15 +64,4 @@ module _ (rows : ℕ) (widths codes : List ℕ) (room : ℕ) where
       let two = writing.few-columns rows widths codes room one (omega (arith, fit-widths .some)) (fit-widths .few) in
       let three = writing.all-fit rows widths codes room two (omega arith) in
       let four = writing.counted rows widths codes room three (fit-codes .full) in
-      writing.accepted rows widths codes room (writing.all-below rows widths codes room four (omega arith)) long
-
-  -- a refusal is no number of bytes
-  none-answers : (line : Option Line) (n m : ℕ) → answerBy (λ l. Refused (refusal l)) (Bytes n) line ≡ Bytes m →
-      (line ≡ none) × (m ≡ n)
-  none-answers none n m e = (refl, cc)
-  none-answers (some line) n m e = let z : _≡_ {A = ℕ} 0 1 = cc in absurd (omega arith)
-
-  pub written-is-accepted : (n : ℕ) → writtenOf rows widths codes room ≡ Bytes n →
-      (firstLine (writeLines rows widths codes room) ≡ none) × (n ≡ fileLength rows widths)
-  unfolding writtenOf
-  written-is-accepted n e = none-answers (firstLine (writeLines rows widths codes room)) (fileLength rows widths) n e
+      writing.none-answers rows widths codes room (writing.all-below rows widths codes room four (omega arith)) long

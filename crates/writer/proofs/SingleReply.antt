@@ -4,10 +4,10 @@
 use mathlib.Core.Path.{_≡_}
 use denote.Ref.{now}
 use Rattle.basis.proofs.SingleReply.{single-reply}
-use Rattle.writer.specs.declared.Written.{Written}
+use Rattle.answers.specs.declared.Answer.{Answer}
 use Rattle.writer.proofs.write.Reads.{Post as Writes}
 
-pub one-writing : (κs : _) (lent : _) (reply other : Written) (exit exit′ : _) →
+pub one-writing : (κs : _) (lent : _) (reply other : Answer) (exit exit′ : _) →
     Writes κs lent reply exit → Writes κs lent other exit′ → (reply ≡ other) × (now (exit .1 .1 .1 .0) ≡ now (exit′ .1 .1 .1 .0))
 one-writing κs lent reply other exit exit′ first second =
     (single-reply (first .0) (second .0), single-reply (first .1 .1) (second .1 .1))

@@ -1,4 +1,3 @@
 -- The file of a register, and what writing it answers.
 pub mod Layout
-pub mod Answers
 pub mod Writing

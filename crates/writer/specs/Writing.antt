@@ -4,13 +4,11 @@ use mathlib.Core.List.{List, [], _∷_}
 use mathlib.Core.Bool.{not, _||_}
 use lib.Dec.{ltb, eqb}
 use lib.ListN.{length}
-use Rattle.basis.specs.Refusals.{Line, refuse, refuseAt, refuseFor, firstLine, answerBy, shownBy}
-use Rattle.basis.specs.Buffers.{laid}
+use Rattle.basis.specs.Refusals.{Line, refuse, refuseAt, refuseFor}
 use Rattle.limits.specs.Limits.{mostRows, mostColumns}
-use Rattle.answers.specs.Answers.{refusal}
+use Rattle.answers.specs.declared.Answer.{Answer}
+use Rattle.answers.specs.Answers as answers
 use Rattle.table.specs.Table.{firstUnfit, firstTooLarge}
-use Rattle.writer.specs.declared.Written.{Written}
-use Rattle.writer.specs.declared.Written.the-variants.{Bytes, Refused}
 use Rattle.writer.specs.Layout.{fileOf, fileLength}
 
 module _ (rows : ℕ) (widths codes : List ℕ) (room : ℕ) where
@@ -31,14 +29,13 @@ module _ (rows : ℕ) (widths codes : List ℕ) (room : ℕ) where
       ∷ []
 
   -- the answer
-  unfoldable pub writtenOf : Written
-  writtenOf = answerBy (λ line. Refused (refusal line)) (Bytes (fileLength rows widths)) (firstLine writeLines)
+  abbrev pub writtenOf : Answer
+  writtenOf = answers.answerOf writeLines (fileLength rows widths)
 
   -- what is shown, from the same table
-  unfoldable pub shownFor : List ℕ
-  shownFor = shownBy (fileLength rows widths ∷ []) (firstLine writeLines)
+  abbrev pub shownFor : List ℕ
+  shownFor = answers.shownFor writeLines (fileLength rows widths)
 
 -- what the output then holds: the file, and after it what was there before; refused, all that was there before
-unfoldable pub leftIn : ℕ → List ℕ → List ℕ → List ℕ → List ℕ
-leftIn rows widths codes out =
-    answerBy (λ line. out) (laid out 0 (fileOf rows widths codes)) (firstLine (writeLines rows widths codes (length out)))
+abbrev pub leftIn : ℕ → List ℕ → List ℕ → List ℕ → List ℕ
+leftIn rows widths codes out = answers.leftBy (writeLines rows widths codes (length out)) out (fileOf rows widths codes)

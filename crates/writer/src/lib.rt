@@ -1,6 +1,7 @@
 // Writes a register's file into a lent buffer: rows of codes become slices, one after the other,
 // and the directory and the trailer follow. Nothing is stored besides.
-use answers::Refusal;
+use answers::Answer;
+use answers::refused;
 use limits::ENTRY_BYTES;
 use limits::MOST_COLUMNS;
 use limits::MOST_ROWS;
@@ -10,22 +11,16 @@ ghost use Prim.Native.Nat.{_+_, _*_, _≤_, _<_};
 ghost use lib.ListN.{length};
 ghost use Rattle.basis.specs.Buffers.{laid};
 ghost use Rattle.basis.specs.Numbers.{toLittle};
+ghost use Rattle.answers.specs.Answers.{shownOf};
 ghost use Rattle.register.specs.Layout.{slicesBefore, bytesBefore};
 ghost use Rattle.limits.specs.Limits.{mostRows, mostColumns, mostSlices, entryBytes, trailerBytes};
 ghost use Rattle.table.specs.Table.{widthOf, FitWidths, FitCodes};
 ghost use Rattle.writer.specs.Layout.{entryWith, directoryOf, trailerWith, fileOf};
-ghost use Rattle.writer.specs.Answers.{refusedWith, shownOf};
 ghost use Rattle.writer.specs.Writing.{writtenOf, shownFor, leftIn};
-
-// The answer to writing: how many bytes the file has, or the refusal.
-pub enum Written {
-    Bytes(usize),
-    Refused(Refusal),
-}
 
 // Writes the file of so many rows, with these widths and these codes, row after row, to the front
 // of `out`. Refused, it changes nothing.
-pub fn write(rows: usize, widths: &[u8], codes: &[u64], out: &mut [u8]) -> Written
+pub fn write(rows: usize, widths: &[u8], codes: &[u64], out: &mut [u8]) -> Answer
     ensures answer { λ r. ⌜ r ≡ writtenOf rows (now (widths .entry)) (now (codes .entry)) (length (now (out .entry))) ⌝ }
     ensures shown { λ r. ⌜ shownOf r ≡ shownFor rows (now (widths .entry)) (now (codes .entry)) (length (now (out .entry))) ⌝ }
     ensures left { λ r. ⌜ now (out .exit) ≡ leftIn rows (now (widths .entry)) (now (codes .entry)) (now (out .entry)) ⌝ }
@@ -57,17 +52,7 @@ pub fn write(rows: usize, widths: &[u8], codes: &[u64], out: &mut [u8]) -> Writt
         return refused(10, 0, need);
     }
     write_parts(rows, widths, codes, body, out);
-    Written::Bytes(need)
-}
-
-fn refused(number: usize, place: usize, need: usize) -> Written
-    ensures { λ r. ⌜ r ≡ refusedWith number place need ⌝ }
-{
-    Written::Refused(Refusal {
-        number,
-        place,
-        need,
-    })
+    Answer::Elements(need)
 }
 
 // How many slices all columns have.

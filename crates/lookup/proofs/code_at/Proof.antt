@@ -6,12 +6,6 @@ use Rattle.lookup.proofs.Rows.{some-width, narrow, row-within, code-gat
 use Rattle.lookup.proofs.code_at.Statement.{statement}
 use Rattle.lookup.proofs.code_at.Tie as tie
 
-width-at-requires : tie.Need-width-at-requires
-width-at-requires c κs = search needs
-
-offset-at-requires : tie.Need-offset-at-requires
-offset-at-requires c κs = search needs
-
 code-of-requires : tie.Need-code-of-requires
 code-of-requires c κs =
     let width = c .before in
@@ -27,4 +21,4 @@ returns c =
     ∙ rw (width .width-at .ensures, c .before .offset-at .ensures) (sym (code-gathered _ _ (asked .0) _ (asked .1) _))
 
 pub code-at-spec : {M : Type 1} → statement M
-code-at-spec = tie.close (tie.spec width-at-requires offset-at-requires code-of-requires returns)
+code-at-spec = tie.close (tie.spec (λ c κs. search needs) (λ c κs. search needs) code-of-requires returns)

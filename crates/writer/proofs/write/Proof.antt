@@ -2,18 +2,21 @@
 -- file is written. Assumes nothing.
 use Prim.Native.Nat.{ℕ, _+_, _*_, _^_, _≤_}
 use native.Mathlib.Omega.{arith}
-use mathlib.Core.Path.{_≡_, ap, _∙_}
-use mathlib.Core.Bool.{true}
+use mathlib.Core.Path.{_≡_, ap}
 use borrow.Author.Needs.{needs}
+use borrow.Author.Tests.{lt-ltb, eq-eqb}
+use lib.Dec.{eqb}
 use lib.ListN.{length}
 use Rattle.limits.specs.Limits.{mostRows, mostColumns, mostSlices, entryBytes, trailerBytes}
-use Rattle.basis.specs.Refusals.{refuse, refuseAt, refuseFor}
+use Rattle.basis.proofs.Truth.{left-holds, right-holds, differs}
+use Rattle.basis.proofs.Refusals.{at-first, stops}
+use Rattle.answers.specs.declared.Answer.the-variants.{Elements}
+use Rattle.answers.proofs.Replies.{refused-by, accepted-by}
 use Rattle.register.specs.Layout.{bytesBefore}
 use Rattle.register.proofs.Directory.{few-bytes}
-use Rattle.writer.specs.declared.Written.the-variants.{Bytes}
-use Rattle.writer.specs.Answers.{refusedWith}
 use Rattle.table.specs.Table.{widthOf, FitWidths, FitCodes, firstUnfit, firstTooLarge}
 use Rattle.writer.specs.Layout.{fileLength}
+use Rattle.writer.specs.Writing.{writeLines}
 use Rattle.writer.proofs.Fit.{widths-fit, codes-fit}
 use Rattle.writer.proofs.Writing as writing
 use Rattle.writer.proofs.write.Statement.{statement}
@@ -36,29 +39,32 @@ abbrev start-8 : tie.Else6 → tie.Start
 start-8 c = start-9 (c .before .before)
 
 -- so many lines of the table have been passed over
-abbrev Past : tie.Start → ℕ → Type 0
-Past s passed = writing.Past (s .args .rows) (s .args .widths .now) (s .args .codes .now) (length (s .args .out .now)) passed
+abbrev Passed : tie.Start → ℕ → Type 0
+Passed s many = writing.Passed (s .args .rows) (s .args .widths .now) (s .args .codes .now) (length (s .args .out .now)) many
 
-past-3 : (c : tie.Else1) → Past (start-3 c) 1
+past-0 : (s : tie.Start) → Passed s 0
+past-0 s = at-first _
+
+past-3 : (c : tie.Else1) → Passed (start-3 c) 1
 past-3 c = writing.few-rows _ _ _ _ (c .if1 .left)
 
-past-4 : (c : tie.Else3) → Past (start-4 c) 2
+past-4 : (c : tie.Else3) → Passed (start-4 c) 2
 past-4 c = writing.few-columns _ _ _ _ (past-3 (c .before .before)) (c .before .if2 .left) (c .if3 .left)
 
 none-unfit : (c : tie.Else4) → length (start-6 c .args .widths .now) ≤ firstUnfit (start-6 c .args .widths .now)
 none-unfit c = omega (arith, c .before .first-unfit .ensures, c .if4 .left)
 
-past-6 : (c : tie.Else4) → Past (start-6 c) 3
+past-6 : (c : tie.Else4) → Passed (start-6 c) 3
 past-6 c = writing.all-fit _ _ _ _ (past-4 (c .before .before)) (none-unfit c)
 
-past-9 : (c : tie.Else5) → Past (start-9 c) 4
+past-9 : (c : tie.Else5) → Passed (start-9 c) 4
 past-9 c = writing.counted _ _ _ _ (past-6 (c .before)) (c .if5 .left)
 
 none-large : (c : tie.Else6) →
     let args = start-8 c .args in length (args .codes .now) ≤ firstTooLarge (args .widths .now) (args .codes .now)
 none-large c = omega (arith, c .before .first-too-large .ensures, c .if6 .left)
 
-past-8 : (c : tie.Else6) → Past (start-8 c) 5
+past-8 : (c : tie.Else6) → Passed (start-8 c) 5
 past-8 c = writing.all-below _ _ _ _ (past-9 (c .before .before)) (none-large c)
 
 -- so widths and codes fit
@@ -93,42 +99,31 @@ file-end c = omega (arith, body-end c)
 small : (c : tie.After-slices-in) → bodyAt c ≤ mostRows * (mostSlices * mostColumns)
 small c = few-bytes _ (c .slices-in .result) mostColumns (fit-codes (c .before) .few-rows) (omega (arith, c .slices-in .ensures .1)) (omega arith)
 
-refused-requires : tie.Need-refused-requires
-refused-requires c κs = search needs
-
 returns : tie.Need-returns
-returns c = writing.refused-as-said _ _ _ _ (refuse 3 true) (c .refused .ensures) (writing.too-many-rows _ _ _ _ (c .before .if1 .taken))
-
-refused-requires-2 : tie.Need-refused-requires-2
-refused-requires-2 c κs = search needs
+unfolding writeLines
+returns c =
+    let start = c .before .before .before .before .before in
+    refused-by _ _ _ _ (stops (past-0 start) (lt-ltb _ _ (c .before .if1 .taken))) (c .refused .ensures)
 
 returns-2 : tie.Need-returns-2
+unfolding writeLines
 returns-2 c =
-    let past = c .before .before in
-    writing.refused-as-said _ _ _ _ (refuse 4 true) (c .refused2 .ensures)
-    (writing.no-columns _ _ _ _ (past-3 past) (c .before .if2 .taken))
-
-refused-requires-3 : tie.Need-refused-requires-3
-refused-requires-3 c κs = search needs
+    refused-by _ _ _ _ (stops (past-3 (c .before .before)) (left-holds _ _ (eq-eqb _ _ (c .before .if2 .taken)))) (c .refused2 .ensures)
 
 returns-3 : tie.Need-returns-3
+unfolding writeLines
 returns-3 c =
-    let past = c .before .before in
-    writing.refused-as-said _ _ _ _ (refuse 4 true) (c .refused3 .ensures)
-    (writing.too-many-columns _ _ _ _ (past-3 (past .before)) (past .if2 .left) (c .before .if3 .taken))
-
-first-unfit-requires : tie.Need-first-unfit-requires
-first-unfit-requires c κs = search needs
-
-refused-requires-4 : tie.Need-refused-requires-4
-refused-requires-4 c κs = search needs
+    let past = c .before .before .before in
+    let many = right-holds (eqb (length (start-3 past .args .widths .now)) 0) _ (lt-ltb mostColumns _ (c .before .if3 .taken)) in
+    refused-by _ _ _ _ (stops (past-3 past) many) (c .refused3 .ensures)
 
 returns-4 : tie.Need-returns-4
+unfolding writeLines
 returns-4 c =
     let found = c .before .before in
     let first = found .first-unfit .ensures in
-    writing.refused-as-said _ _ _ _ (refuseAt 6 true _) (c .refused4 .ensures ∙ ap (λ (place : ℕ). refusedWith 6 place 0) first)
-    (writing.unfit-width _ _ _ _ (past-4 (found .before)) (omega (arith, c .before .if4 .taken)))
+    let unfit = lt-ltb _ _ (rw first at (c .before .if4 .taken)) in
+    refused-by _ _ _ _ (stops (past-4 (found .before)) unfit) (rw first at (c .refused4 .ensures))
 
 mul-if5 : tie.Need-mul-if5
 mul-if5 c =
@@ -136,26 +131,20 @@ mul-if5 c =
     let fit = fit-widths c in
     omega (arith, few-bytes (start-6 c .args .rows) (length (start-6 c .args .widths .now)) _ rows (omega arith) (fit .few))
 
-refused-requires-5 : tie.Need-refused-requires-5
-refused-requires-5 c κs = search needs
-
 returns-5 : tie.Need-returns-5
-returns-5 c =
-    writing.refused-as-said _ _ _ _ (refuse 9 true) (c .refused5 .ensures)
-    (writing.miscounted _ _ _ _ (past-6 (c .before .before)) (c .before .if5 .taken))
+unfolding writeLines
+returns-5 c = refused-by _ _ _ _ (stops (past-6 (c .before .before)) (differs _ _ (c .before .if5 .taken))) (c .refused5 .ensures)
 
 first-too-large-requires : tie.Need-first-too-large-requires
 first-too-large-requires c κs = (fit-widths (c .before), c .if5 .left)
 
-refused-requires-6 : tie.Need-refused-requires-6
-refused-requires-6 c κs = search needs
-
 returns-6 : tie.Need-returns-6
+unfolding writeLines
 returns-6 c =
     let found = c .before .before in
     let first = found .first-too-large .ensures in
-    writing.refused-as-said _ _ _ _ (refuseAt 8 true _) (c .refused6 .ensures ∙ ap (λ (place : ℕ). refusedWith 8 place 0) first)
-    (writing.too-large _ _ _ _ (past-9 (found .before)) (omega (arith, c .before .if6 .taken)))
+    let large = lt-ltb _ _ (rw first at (c .before .if6 .taken)) in
+    refused-by _ _ _ _ (stops (past-9 (found .before)) large) (rw first at (c .refused6 .ensures))
 
 slices-in-requires : tie.Need-slices-in-requires
 slices-in-requires c κs = fit-widths (c .before .before .before)
@@ -163,67 +152,59 @@ slices-in-requires c κs = fit-widths (c .before .before .before)
 mul-body : tie.Need-mul-body
 mul-body c = omega (arith, small c)
 
-mul-need : tie.Need-mul-need
-mul-need c = search needs
-
 add-need : tie.Need-add-need
 add-need c = omega (arith, small c, fit-widths (c .before .before .before .before) .few)
 
 add-need-2 : tie.Need-add-need-2
 add-need-2 c = omega (arith, small c, fit-widths (c .before .before .before .before) .few)
 
-refused-requires-7 : tie.Need-refused-requires-7
-refused-requires-7 c κs = search needs
-
 returns-7 : tie.Need-returns-7
+unfolding writeLines
 returns-7 c =
     let counted = c .before .before in
     let end = file-end counted in
-    writing.refused-as-said _ _ _ _ (refuseFor 10 true _) (c .refused7 .ensures ∙ ap (refusedWith 10 0) end)
-    (writing.too-short _ _ _ _ (past-8 (counted .before)) (omega (arith, c .before .if7 .taken)))
+    let short = lt-ltb _ _ (rw end at (c .before .if7 .taken)) in
+    refused-by _ _ _ _ (stops (past-8 (counted .before)) short) (rw end at (c .refused7 .ensures))
 
 write-parts-requires : tie.Need-write-parts-requires
 write-parts-requires c κs =
     let counted = c .before .before in
     (fit-widths (counted .before .before .before .before), (fit-codes (counted .before), (body-end counted, c .before .if7 .left)))
 
-same-length : tie.Need-same-length
-same-length c = search needs
-
 returns-8 : tie.Need-returns-8
 returns-8 c =
     let call = c .before .before in
     let room = call .before .before in
     let end = file-end (room .before) in
-    writing.written-as-said _ _ _ _ (ap Bytes end) (call .write-parts .ensures)
-    (writing.accepted _ _ _ _ (past-8 (room .before .before)) (omega (arith, room .if7 .left)))
+    accepted-by _ _ _ _ (writing.none-answers _ _ _ _ (past-8 (room .before .before)) (omega (arith, room .if7 .left))) (ap Elements end)
+    (call .write-parts .ensures)
 
 pub write-spec : {M : Type 1} → statement M
 write-spec =
     tie.close
     (tie.spec
-    refused-requires
+    (λ c κs. search needs)
     returns
-    refused-requires-2
+    (λ c κs. search needs)
     returns-2
-    refused-requires-3
+    (λ c κs. search needs)
     returns-3
-    first-unfit-requires
-    refused-requires-4
+    (λ c κs. search needs)
+    (λ c κs. search needs)
     returns-4
     mul-if5
-    refused-requires-5
+    (λ c κs. search needs)
     returns-5
     first-too-large-requires
-    refused-requires-6
+    (λ c κs. search needs)
     returns-6
     slices-in-requires
     mul-body
-    mul-need
+    (λ c. search needs)
     add-need
     add-need-2
-    refused-requires-7
+    (λ c κs. search needs)
     returns-7
     write-parts-requires
-    same-length
+    (λ c. search needs)
     returns-8)
