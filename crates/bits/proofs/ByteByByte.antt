@@ -1,4 +1,6 @@
 -- The marked rows, byte by byte. Assumes nothing.
+--   run-moved         consecutive numbers, moved
+--   bit-of-byte       the bit of a row is one of its byte
 --   one-more-byte     the rows of one byte more are the places of its set bits, moved to where the byte stands
 --   one-more-counted  and so many more
 --   no-fewer          below more rows, no fewer are marked
@@ -21,14 +23,12 @@ use Rattle.bits.specs.Bits.{bytesFor, bitIn}
 use Rattle.bits.specs.SetBits.{isSet, placesIn, placesOf}
 use Rattle.bits.specs.Marked.{marked, markedBelow, markedPast}
 
--- consecutive numbers, moved
 pub run-moved : (by first many : ℕ) → run (by + first) many ≡ map (λ k. by + k) (run first many)
 run-moved by first zero = refl
 run-moved by first (suc many) =
     let next : suc (by + first) ≡ by + suc first = omega arith in
     ap (λ rest. (by + first) ∷ rest) (rw next (run-moved by (suc first) many))
 
--- the bit of a row is one of its byte
 pub bit-of-byte : (bits : List ℕ) (i k : ℕ) → k < 8 → marked bits (8 * i + k) ≡ isSet (getD bits i 0) k
 unfolding bitIn
 bit-of-byte bits i k h =
@@ -74,7 +74,8 @@ next-fits bits room i inside fit =
     let more : 8 * (i + 1) ≤ 8 * length bits = omega arith in
     omega (arith, one-more-counted bits i, no-fewer bits more)
 
-pub none-past-last : (rows : ℕ) (bits : List ℕ) → markedPast rows bits ≡ false → markedBelow (8 * bytesFor rows) bits ≡ markedBelow rows bits
+pub none-past-last : (rows : ℕ) (bits : List ℕ) → markedPast rows bits ≡ false →
+    markedBelow (8 * bytesFor rows) bits ≡ markedBelow rows bits
 unfolding markedBelow markedPast bytesFor
 none-past-last rows bits none =
     let past = 8 * bytesFor rows - rows in

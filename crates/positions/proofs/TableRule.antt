@@ -1,6 +1,7 @@
 -- The rule of the table of positions: one test, computed over the whole table, that holds at every entry. Assumes nothing.
---   holds-places    the table of positions: row b has the places of the set bits of b, then zeros
---   few-places      a byte has at most eight set bits
+--   rightPlace          an entry is the place that its row says
+--   holds-places        the table of positions: row b has the places of the set bits of b, then zeros
+--   few-places          a byte has at most eight set bits
 --   places-by-number    the rows of its places, told by number
 use Prim.Native.Nat.{ℕ, _+_, _*_, _/_, _%_, _≤_}
 use native.Mathlib.Omega.{arith}
@@ -33,7 +34,9 @@ holds-places table long passed byte k few here =
 
 pub few-places : (byte : ℕ) → length (placesOf byte) ≤ 8
 unfolding placesIn
-few-places byte = rw (length-those (isSet byte) (below 8)) (sum-at-most (λ k. cond (isSet byte k) 1 0) 1 8 (λ k h. bit-or-none (isSet byte k)))
+few-places byte =
+    rw (length-those (isSet byte) (below 8))
+    (sum-at-most (λ k. cond (isSet byte k) 1 0) 1 8 (λ k h. bit-or-none (isSet byte k)))
   where
     bit-or-none : (is : Bool) → cond is 1 0 ≤ 1
     bit-or-none true = omega arith

@@ -47,7 +47,8 @@ loop-again c =
     let turn = c .before .before .loop in
     let a = c .before .before .before .before .args in (
       omega arith,
-      rw (c .position .ensures .0) (filled-element (a .out .now) (a .at) (rowAt (a .byte) (a .first)) (turn .k) (turn .inv .1) (omega arith)),
+      rw (c .position .ensures .0)
+          (filled-element (a .out .now) (a .at) (rowAt (a .byte) (a .first)) (turn .k) (turn .inv .1) (omega arith)),
     )
 
 same-length : tie.Need-same-length Inv-loop μ-loop
