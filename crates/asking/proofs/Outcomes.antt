@@ -47,7 +47,7 @@ module _ (file : List ℕ) (size : ℕ) (query : Query) where
   module _ (shape : Shape) (opened : openedOf file ≡ Register shape) where
     -- past opening, the lines of the query are next
     at-query : Past (askLines file size query) (queryLines file size query)
-    at-query = record { alike = own-lines-next file (queryLines file size query) shape opened }
+    at-query = own-lines-next file (queryLines file size query) shape opened
 
     pub wrong-size : unfitSize size ≡ true → {r : Opened} → r ≡ refusedWith 14 0 → r ≡ askedOf file size query
     unfolding queryLines

@@ -87,7 +87,7 @@ returns-4 c =
     let past = counted .before in
     let all = all-marked _ (bitsOf past) (fit past) in
     let many = counted .count-rows .ensures ∙ ap length all in
-    let room = rw many at (wrote .before .before .before .if3 .left) in
+    let room = rw many at (wrote .before .before .if3 .left) in
     accepted-by _ _ _ _ (outcomes.none-answers _ (bitsOf past) _ (few past) (fit past) room) (ap Elements many)
     (wrote .write-rows .ensures ∙ rw all)
 
