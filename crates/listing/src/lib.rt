@@ -118,17 +118,18 @@ pub fn find(file: &[u8], text: &[u8], bits: &mut [u8; MOST_BITS]) -> Found
     find_rows(file, asked, bits)
 }
 
-// Opens the file and scans it, as a text asks that was read.
+// Holds what a text asks to the file, which opens it, and scans it.
 fn find_rows(file: &[u8], asked: Asked, bits: &mut [u8; MOST_BITS]) -> Found
     requires { ⌜ asked .refusal .number ≡ 0 ⌝ }
     ensures { λ r. ⌜ FoundBy (now (file .entry)) asked (now (bits .exit)) r ⌝ }
 {
-    let opened = register::open(file);
-    let Opened::Register(shape) = opened else {
-        return refused(register::refusal_of(opened));
-    };
     let query = asked.query;
-    let scanned = scan::scan(file, asked.size, query, bits);
+    let held = asking::ask(file, asked.size, query);
+    let Opened::Register(shape) = held else {
+        return refused(register::refusal_of(held));
+    };
+    let tests = query.tests;
+    let scanned = scan::scan_rows(file, shape, asked.size, tests, query.count, bits);
     let refusal = scanned.refusal;
     let counts = scanned.counts;
     Found {
