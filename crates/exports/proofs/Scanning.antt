@@ -9,7 +9,7 @@ use lib.ListN.{length}
 use Rattle.text.specs.declared.Asked.{Asked}
 use Rattle.scan.specs.declared.Scanned.{Scanned}
 use Rattle.scan.specs.Answers.{refused, scannedOf, leftIn}
-use Rattle.exports.specs.Replies.{scanReply}
+use Rattle.replies.specs.Replies.{scanReply}
 use Rattle.exports.specs.Asked.{scanOf, resultOf}
 
 module _ (file : List ℕ) (asked : Asked) (before : List ℕ) where

@@ -11,7 +11,7 @@ use denote.Ref.{now}
 use Rattle.basis.proofs.SingleReply.{single-reply as one-of}
 use Rattle.text.specs.declared.Asked.{Asked}
 use Rattle.text.proofs.SingleReply.{single-reply}
-use Rattle.exports.specs.Replies.{readReply, scanReply}
+use Rattle.replies.specs.Replies.{readReply, scanReply}
 use Rattle.exports.specs.Asked.{ReadReplied, ScanReplied, scanOf, resultOf}
 use Rattle.exports.proofs.bsl_open.Reads.{Post as Opens}
 use Rattle.exports.proofs.bsl_widths.Reads.{Post as Measures}

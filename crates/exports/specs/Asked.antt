@@ -9,7 +9,7 @@ use Rattle.text.specs.declared.Asked.{Asked}
 use Rattle.text.specs.Reading.{Reads}
 use Rattle.scan.specs.declared.Scanned.{Scanned}
 use Rattle.scan.specs.Answers.{refused, scannedOf, leftIn}
-use Rattle.exports.specs.Replies.{readReply, scanReply}
+use Rattle.replies.specs.Replies.{readReply, scanReply}
 
 -- what the text asks is the reply
 abbrev pub ReadReplied : List ℕ → List ℕ → Type 0

@@ -1,3 +1,2 @@
--- The replies of the calls that C and Rust make.
-pub mod Replies
+-- The two calls of C and Rust that take a text.
 pub mod Asked

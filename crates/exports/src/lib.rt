@@ -1,8 +1,6 @@
 // The calls for C and Rust. A slice passes as a pointer and a length, a reply as a pointer to so many
 // numbers of 64 bits: number, place and need of a refusal, 0 where there is none, then the values, 0
 // where there is one. A query passes as its text.
-mod replies;
-
 use limits::ANSWER_NUMBERS;
 use limits::MOST_TESTS;
 use limits::OPEN_NUMBERS;

@@ -23,7 +23,7 @@ use Rattle.asking.specs.Sizes.{unfitSize}
 use Rattle.asking.specs.Refusals.{testsLines, queryLines}
 use Rattle.scan.specs.Answers as scans
 use Rattle.rows.specs.RowList as lists
-use Rattle.exports.specs.Replies.{scanReply}
+use Rattle.replies.specs.Replies.{scanReply}
 use Rattle.settled.specs.Questions.{answer}
 use Rattle.settled.specs.Registers.{twoRows, tenRows, tenCodes, oneByte, noRows}
 use Rattle.settled.specs.Table.{Example, table}

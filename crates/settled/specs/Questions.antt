@@ -11,7 +11,7 @@ use Rattle.query.specs.declared.Test.{Test}
 use Rattle.query.specs.Tests.{emptySlot, slotsOf}
 use Rattle.scan.specs.Answers as scans
 use Rattle.rows.specs.RowList as lists
-use Rattle.exports.specs.Replies.{scanReply}
+use Rattle.replies.specs.Replies.{scanReply}
 
 -- what may be asked; a buffer is lent with what it holds before
 pub data Question : Type 0 where

@@ -1,4 +1,4 @@
--- `exports::replies::read_reply` meets its contract: the slots stand behind the five numbers. Assumes nothing.
+-- `replies::read_reply` meets its contract: the slots stand behind the five numbers. Assumes nothing.
 use Prim.Native.Nat.{ℕ, _-_, _≤_}
 use native.Mathlib.Omega.{arith}
 use mathlib.Core.Path.{_≡_, refl, ap, _∙_}
@@ -9,10 +9,10 @@ use Rattle.limits.specs.Limits.{mostTests, readNumbers}
 use Rattle.basis.specs.Lists.{below}
 use Rattle.basis.proofs.Buffers.{Filled, filled-nothing}
 use Rattle.query.specs.Tests.{emptySlot}
-use Rattle.exports.specs.Replies.{readReply}
-use Rattle.exports.proofs.Behind.{behind, slotAt, each-slot, slot-more}
-use Rattle.exports.proofs.replies.read_reply.Statement.{statement}
-use Rattle.exports.proofs.replies.read_reply.Tie as tie
+use Rattle.replies.specs.Replies.{readReply}
+use Rattle.replies.proofs.Behind.{behind, slotAt, each-slot, slot-more}
+use Rattle.replies.proofs.read_reply.Statement.{statement}
+use Rattle.replies.proofs.read_reply.Tie as tie
 
 abbrev Inv-loop : tie.InvT-loop
 Inv-loop size count tests reply₀ t₀ reply t =

@@ -1,7 +1,7 @@
--- `exports::replies::answer_reply` meets its contract: case by case. Assumes nothing.
+-- `replies::answer_reply` meets its contract: case by case. Assumes nothing.
 use borrow.Author.Needs.{needs}
-use Rattle.exports.proofs.replies.answer_reply.Statement.{statement}
-use Rattle.exports.proofs.replies.answer_reply.Tie as tie
+use Rattle.replies.proofs.answer_reply.Statement.{statement}
+use Rattle.replies.proofs.answer_reply.Tie as tie
 
 returns : tie.Need-returns
 returns c = rw (c .before .answer .given .1)

@@ -13,7 +13,7 @@ use scan::Scanned;
 ghost use mathlib.Core.Path.{_≡_};
 ghost use Rattle.answers.specs.Answers as answers;
 ghost use Rattle.register.specs.Answers as register;
-ghost use Rattle.exports.specs.Replies.{kindOf, readReply, scanReply};
+ghost use Rattle.replies.specs.Replies.{kindOf, readReply, scanReply};
 
 pub fn opened_reply(opened: Opened) -> [u64; OPEN_NUMBERS]
     ensures { λ r. ⌜ r ≡ register.shownOf opened ⌝ }

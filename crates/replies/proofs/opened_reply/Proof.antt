@@ -1,7 +1,7 @@
--- `exports::replies::opened_reply` meets its contract: case by case. Assumes nothing.
+-- `replies::opened_reply` meets its contract: case by case. Assumes nothing.
 use borrow.Author.Needs.{needs}
-use Rattle.exports.proofs.replies.opened_reply.Statement.{statement}
-use Rattle.exports.proofs.replies.opened_reply.Tie as tie
+use Rattle.replies.proofs.opened_reply.Statement.{statement}
+use Rattle.replies.proofs.opened_reply.Tie as tie
 
 enum-known-opened : tie.Need-enum-known-opened
 enum-known-opened c = search needs

@@ -1,4 +1,4 @@
--- `exports::replies::scanned_reply` meets its contract: the counts stand behind the five numbers. Assumes nothing.
+-- `replies::scanned_reply` meets its contract: the counts stand behind the five numbers. Assumes nothing.
 use Prim.Native.Nat.{ℕ, _-_, _≤_}
 use native.Mathlib.Omega.{arith}
 use mathlib.Core.Path.{_≡_, refl, ap, _∙_}
@@ -8,10 +8,10 @@ use Rattle.limits.specs.Limits.{mostTests, scanNumbers}
 use Rattle.basis.specs.Lists.{below}
 use Rattle.basis.proofs.Buffers.{Filled, filled-nothing, filled-element}
 use borrow.Author.Needs.{needs}
-use Rattle.exports.specs.Replies.{scanReply}
-use Rattle.exports.proofs.Behind.{behind, each-number}
-use Rattle.exports.proofs.replies.scanned_reply.Statement.{statement}
-use Rattle.exports.proofs.replies.scanned_reply.Tie as tie
+use Rattle.replies.specs.Replies.{scanReply}
+use Rattle.replies.proofs.Behind.{behind, each-number}
+use Rattle.replies.proofs.scanned_reply.Statement.{statement}
+use Rattle.replies.proofs.scanned_reply.Tie as tie
 
 abbrev Inv-loop : tie.InvT-loop
 Inv-loop counts reply₀ t₀ reply t =

@@ -17,7 +17,7 @@ use Rattle.basis.proofs.Lists.{joined-one-more, length-flatten, sum-of-same}
 use Rattle.basis.proofs.Runs.{taken-by-number}
 use Rattle.query.specs.declared.Test.{Test}
 use Rattle.query.specs.Tests.{emptySlot, testAt}
-use Rattle.exports.specs.Replies.{slotReply}
+use Rattle.replies.specs.Replies.{slotReply}
 
 pub behind : (start : List ℕ) (at : ℕ) (list : List ℕ) {reply : List ℕ} → Filled start at list reply → length start ≡ at + length list →
     reply ≡ take at start ++ list

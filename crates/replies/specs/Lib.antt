@@ -1,0 +1,2 @@
+-- The replies of the calls, as numbers.
+pub mod Replies
