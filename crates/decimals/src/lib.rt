@@ -64,11 +64,16 @@ fn read_digits(text: &[u8], from: usize, after: After, begun: u64, most: u64) ->
     Number::NoNumber
 }
 
-// Whether a number with one digit more is at most the given one: ten times the number is, and what is
-// then left is no less than the digit.
+// Whether a number with one digit more is at most the given one. Below a tenth of it every digit has
+// room, which is all that most digits ask; else ten times the number is at most the given one, and what
+// is then left is no less than the digit.
 fn has_room(number: u64, digit: u64, most: u64) -> bool
+    requires { ⌜ digit < 10 ⌝ }
     ensures { λ r. ⌜ r ≡ leb (number * 10 + digit) most ⌝ }
 {
+    if number < most / 10 {
+        return true;
+    }
     number <= most / 10 && digit <= most - number * 10
 }
 

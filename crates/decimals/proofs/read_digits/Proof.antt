@@ -107,7 +107,7 @@ read-digits-spec =
     (λ c. omega arith)
     (λ c κs. search needs)
     (λ c. omega arith)
-    (λ c κs. search needs)
+    (λ c κs. small-digit c)
     returns
     mul-number
     add-number
