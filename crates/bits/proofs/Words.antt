@@ -1,20 +1,18 @@
 -- The rows that are marked in some bytes, told by the number that the bytes make. Assumes nothing.
---   fits-word         seven bytes at most and one more make a number of 64 bits
 --   cut-at-a-byte     the marked rows of some bytes: those of the first of them, then those of the further ones, moved
 --   marked-by-number  the marked rows of bytes are the places of the set bits of the number that they make
---   word-read         so a number of the bytes at a place has the rows marked there
+--   word-read         so the number of the bytes at a place has the rows marked there
 --   count-of-word     with them so many more are marked
 --   room-for-word     where all fit into a buffer, so do they
-use Prim.Native.Nat.{ℕ, suc, _+_, _*_, _/_, _%_, _^_, _≤_, _<_}
+use Prim.Native.Nat.{ℕ, suc, _+_, _-_, _*_, _/_, _%_, _≤_, _<_}
 use native.Mathlib.Omega.{arith}
-use native.Mathlib.Nat.{zero-add, pow-le-pow-right, lt-of-lt-of-le}
+use native.Mathlib.Nat.{zero-add}
 use mathlib.Core.Path.{_≡_, sym, ap, ap₂, _∙_}
 use mathlib.Core.List.{List, [], _∷_, _++_, map}
 use lib.ListN.{length, getD, take, drop, length-append, length-drop, length-map}
 use lib.Seq.{take-length, length-take-le, getD-take, getD-drop}
 use Rattle.basis.specs.Lists.{those, run, below}
 use Rattle.basis.specs.Numbers.{little}
-use Rattle.basis.proofs.Numbers.{one-more-byte}
 use Rattle.basis.proofs.Runs.{in-below, run-joined}
 use Rattle.basis.proofs.Those.{those-joined, those-mapped, those-same}
 use Rattle.bits.specs.Bits.{bitIn}
@@ -22,9 +20,6 @@ use Rattle.bits.specs.SetBits.{isSet, placesIn, placesOf, WordRead}
 use Rattle.bits.specs.Marked.{marked, markedBelow}
 use Rattle.bits.proofs.ByteByByte.{run-moved, bit-of-byte, no-fewer}
 use Rattle.bits.proofs.SetBits.{none-in-zero, low-then-high}
-
-pub fits-word : (n number b : ℕ) → n < 8 → number < 256 ^ n → b < 256 → number * 256 + b < 2 ^ 64
-fits-word n number b few h byte = lt-of-lt-of-le (one-more-byte n number b h byte) (pow-le-pow-right {n = 256} (omega arith) few)
 
 -- a row's bit, counted from a byte on
 moved-bit : (bits : List ℕ) (i n k : ℕ) → k < 8 * n → marked bits (8 * i + k) ≡ marked (take n (drop i bits)) k
@@ -57,7 +52,7 @@ of-first-byte b bytes =
     those-same (marked (b ∷ bytes)) (isSet b) (below 8)
     (λ k m. ap (marked (b ∷ bytes)) (sym (zero-add k)) ∙ bit-of-byte (b ∷ bytes) 0 k (in-below 8 k m))
 
-pub marked-by-number : (bytes : List ℕ) (spare : ℕ) → ((k : ℕ) → getD bytes k 0 < 256) →
+marked-by-number : (bytes : List ℕ) (spare : ℕ) → ((k : ℕ) → k < length bytes → getD bytes k 0 < 256) →
     placesIn (8 * length bytes + spare) (little bytes) ≡ markedBelow (8 * length bytes) bytes
 unfolding little markedBelow
 marked-by-number [] spare small = none-in-zero (8 * 0 + spare)
@@ -66,23 +61,32 @@ marked-by-number (b ∷ bytes) spare small =
     let more : 8 * suc n + spare ≡ 8 + (8 * n + spare) = omega arith in
     let one : suc n ≡ 1 + n = omega arith in
     ap (λ (width : ℕ). placesIn width (b + 256 * little bytes)) more
-    ∙ low-then-high 8 (8 * n + spare) b (little bytes) (small 0)
+    ∙ low-then-high 8 (8 * n + spare) b (little bytes) (small 0 (omega arith))
     ∙ ap₂ (λ (a c : List ℕ). a ++ map (λ p. 8 + p) c) (sym (of-first-byte b bytes))
-    (marked-by-number bytes spare (λ k. small (suc k)) ∙ ap (markedBelow (8 * n)) (sym (take-length bytes)))
+    (marked-by-number bytes spare (λ k h. small (suc k) (omega arith)) ∙ ap (markedBelow (8 * n)) (sym (take-length bytes)))
     ∙ sym (cut-at-a-byte (b ∷ bytes) 1 n)
     ∙ ap (λ (m : ℕ). markedBelow (8 * m) (b ∷ bytes)) (sym one)
 
-pub word-read : (bits : List ℕ) (i n word : ℕ) (part : List ℕ) → i + n ≤ length bits → part ≡ take n (drop i bits) →
-    placesIn 64 word ≡ markedBelow (8 * length part) part → WordRead bits i n word
-word-read bits i n word part inside cut is =
-    let left = length-drop i bits in
-    let long : length part ≡ n = ap length cut ∙ length-take-le n (drop i bits) (omega arith) in
-    record {
-      rows =
-          cut-at-a-byte bits i n
-          ∙ ap (λ (rows : List ℕ). markedBelow (8 * i) bits ++ map (λ p. 8 * i + p) rows)
-          (ap₂ (λ (m : ℕ) (bytes : List ℕ). markedBelow (8 * m) bytes) (sym long) (sym cut) ∙ sym is);
-    }
+module _ (bits : List ℕ) (i n : ℕ) (few : n ≤ 8) (inside : i + n ≤ length bits) (small : (k : ℕ) → getD bits k 0 < 256) where
+  abbrev part : List ℕ
+  part = take n (drop i bits)
+
+  long : length part ≡ n
+  long = length-take-le n (drop i bits) (omega (arith, length-drop i bits))
+
+  small-in-part : (k : ℕ) → k < length part → getD part k 0 < 256
+  small-in-part k h = rw (getD-take n (drop i bits) k 0 (omega (arith, long)), getD-drop i bits k 0) (small (i + k))
+
+  pub word-read : (word : ℕ) → word ≡ little part → WordRead bits i n word
+  word-read word is =
+      let whole : 64 ≡ 8 * length part + (64 - 8 * length part) = omega (arith, long) in
+      let rows = ap₂ placesIn whole is ∙ marked-by-number part (64 - 8 * length part) small-in-part in
+      record {
+        rows =
+            cut-at-a-byte bits i n
+            ∙ ap (λ (rows : List ℕ). markedBelow (8 * i) bits ++ map (λ p. 8 * i + p) rows)
+            (ap (λ (m : ℕ). markedBelow (8 * m) part) (sym long) ∙ sym rows);
+      }
 
 module _ {bits : List ℕ} {i n word : ℕ} (read : WordRead bits i n word) where
   pub count-of-word : length (markedBelow (8 * (i + n)) bits) ≡ length (markedBelow (8 * i) bits) + length (placesIn 64 word)

@@ -28,7 +28,7 @@ pub fn is_marked(bits: &[u8], row: usize) -> bool
         return false;
     }
     let weight: usize = 1 << (row % 8);
-    wide(bits[row / 8]) / weight % 2 == 1
+    numbers::wide(bits[row / 8]) / weight % 2 == 1
 }
 
 // Whether the bits are too few or too many, or one past the last row is set.
@@ -52,14 +52,7 @@ fn marked_past(rows: usize, bits: &[u8]) -> bool
         return false;
     }
     let weight: usize = 1 << used;
-    weight <= wide(bits[rows / 8])
-}
-
-// A byte as a number.
-pub fn wide(byte: u8) -> usize
-    ensures { λ r. ⌜ (r ≡ byte) × (r < 256) ⌝ }
-{
-    byte as usize
+    weight <= numbers::wide(bits[rows / 8])
 }
 
 // How many bits are set in all bytes, eight bytes at a time.
@@ -82,22 +75,7 @@ pub fn word_at(bits: &[u8], i: usize, many: usize) -> usize
     ensures { λ r. ⌜ WordRead (now (bits .entry)) i many r ⌝ }
 {
     let end = i + many;
-    word_of(&bits[i..end])
-}
-
-// The number that at most eight bytes make, the least significant first: its set bits are the rows
-// marked in the bytes.
-fn word_of(bytes: &[u8]) -> usize
-    requires { ⌜ length (now bytes) ≤ 8 ⌝ }
-    ensures { λ r. ⌜ placesIn 64 r ≡ markedBelow (8 * length (now (bytes .entry))) (now (bytes .entry)) ⌝ }
-{
-    let mut word: usize = 0;
-    let mut left = bytes.len();
-    while 0 < left {
-        left = left - 1;
-        word = word * 256 + wide(bytes[left]);
-    }
-    word
+    numbers::number_of(&bits[i..end])
 }
 
 // How many bits of a word are set.

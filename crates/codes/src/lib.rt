@@ -56,10 +56,11 @@ pub fn byte_of(width: u8, code: u64, slice: usize) -> u8
     (rest % 256) as u8
 }
 
-fn wide(x: u8) -> u64
-    ensures { λ r. ⌜ (r ≡ x) × (r < 256) ⌝ }
+// A byte as a number, which is then known to be small.
+pub fn wide(byte: u8) -> u64
+    ensures { λ r. ⌜ (r ≡ byte) × (r < 256) ⌝ }
 {
-    x as u64
+    byte as u64
 }
 
 // The code of a row's bytes, slice 1 first. Pad bits are ignored.

@@ -9,7 +9,7 @@ use limits::MOST_FILE;
 use limits::MOST_TEXT;
 use listing::Found;
 ghost use mathlib.Core.Path.{_≡_};
-ghost use Prim.Native.Nat.{_-_, _≤_, _<_, min};
+ghost use Prim.Native.Nat.{_-_, _≤_, _<_};
 ghost use lib.ListN.{length, take};
 ghost use Rattle.files.specs.Taking.{countOf};
 ghost use Rattle.listing.specs.Found.{Listable, foundLines};
@@ -144,7 +144,7 @@ fn print_piece(
     ensures { λ r. ⌜ PieceOf (foundLines (now (file .entry)) (now (bits .entry)) found) from (now (out .entry)) (now (out .exit)) r ⌝ }
 {
     let all = listing::write_found(file, found, bits, from, out);
-    let wanted = least(out.len(), left(all, from));
+    let wanted = numbers::least(out.len(), left(all, from));
     let put = files::put_all(STDOUT_FILENO, &out[..wanted]);
     Piece { put, wanted, all }
 }
@@ -154,12 +154,6 @@ fn left(all: usize, from: usize) -> usize
     ensures { λ r. ⌜ r ≡ all - from ⌝ }
 {
     if from < all { all - from } else { 0 }
-}
-
-fn least(a: usize, b: usize) -> usize
-    ensures { λ r. ⌜ r ≡ min a b ⌝ }
-{
-    if a < b { a } else { b }
 }
 
 // Says that the listing is not whole, why, and how much of it was written: just after the write that failed, so that the

@@ -151,7 +151,7 @@ fn position(positions: &[u8; 2048], byte: u8, k: usize) -> u32
     requires { ⌜ HoldsPlaces (now positions) × (k < 8) ⌝ }
     ensures { λ r. ⌜ (r ≡ getD (placesOf byte) k 0) × (r < 256) ⌝ }
 {
-    row_number(positions[8 * bits::wide(byte) + k])
+    row_number(positions[8 * numbers::wide(byte) + k])
 }
 
 fn row_number(place: u8) -> u32

@@ -4,7 +4,7 @@
 --   fit-column         a fit column has a width from 1 to 32, and starts where it is to start
 --   one-more-column    the slices before the next column
 --   few-bytes          four slices to a column, and the limits, keep the bytes of the body few
-use Prim.Native.Nat.{ℕ, suc, _+_, _-_, _*_, _^_, _≤_, _<_}
+use Prim.Native.Nat.{ℕ, suc, _+_, _-_, _*_, _≤_, _<_}
 use native.Mathlib.Omega.{arith}
 use native.Mathlib.Nat.{mul-le-mul}
 use mathlib.Core.Path.{_≡_}

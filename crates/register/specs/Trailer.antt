@@ -1,5 +1,5 @@
 -- The trailer as it is read once, and kept by number. Assumes nothing.
-use Prim.Native.Nat.{ℕ, _<_, _^_}
+use Prim.Native.Nat.{ℕ, _<_}
 use mathlib.Core.Path.{_≡_}
 use mathlib.Core.List.{List}
 use Rattle.limits.specs.Limits.{fourBytes}

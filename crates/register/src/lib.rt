@@ -7,11 +7,10 @@ use limits::MOST_COLUMNS;
 use limits::MOST_ROWS;
 use limits::TRAILER_BYTES;
 ghost use mathlib.Core.Path.{_≡_};
-ghost use Prim.Native.Nat.{_+_, _*_, _≤_, _<_, _^_};
+ghost use Prim.Native.Nat.{_+_, _*_, _≤_, _<_};
 ghost use lib.ListN.{length};
-ghost use Rattle.basis.specs.Numbers.{little};
 ghost use Rattle.basis.specs.Places.{firstPlace};
-ghost use Rattle.limits.specs.Limits.{mostRows, mostColumns, mostSlices, entryBytes, trailerBytes, fourBytes};
+ghost use Rattle.limits.specs.Limits.{mostRows, mostColumns, mostSlices, entryBytes, trailerBytes};
 ghost use Rattle.answers.specs.Answers as answers;
 ghost use Rattle.register.specs.Layout.{slicesBefore};
 ghost use Rattle.register.specs.File.{rowsIn, directoryIn, entryIn, widthIn, offsetIn, unfitEntry, unfitColumn};
@@ -148,7 +147,7 @@ pub fn offset_at(file: &[u8], shape: Shape, column: usize) -> usize
     ensures { λ r. ⌜ r ≡ offsetIn (now (file .entry)) column ⌝ }
 {
     let found = entry_of(file, shape, column);
-    number_of(&found[4..8])
+    numbers::number_of(&found[4..8])
 }
 
 // The directory's 8 bytes for a column of an opened file.
@@ -172,36 +171,16 @@ fn refused(number: usize, place: usize) -> Opened
     })
 }
 
-fn wide(x: u8) -> usize
-    ensures { λ r. ⌜ (r ≡ x) × (r < 256) ⌝ }
-{
-    x as usize
-}
-
-// The number that at most four bytes make, the least significant first.
-fn number_of(bytes: &[u8]) -> usize
-    requires { ⌜ length (now bytes) ≤ 4 ⌝ }
-    ensures { λ r. ⌜ (r ≡ little (now (bytes .entry))) × (r < fourBytes) ⌝ }
-{
-    let mut number: usize = 0;
-    let mut left = bytes.len();
-    while 0 < left {
-        left = left - 1;
-        number = number * 256 + wide(bytes[left]);
-    }
-    number
-}
-
 fn read_trailer(last: &[u8]) -> Trailer
     requires { ⌜ length (now last) ≡ trailerBytes ⌝ }
     ensures { λ r. ⌜ TrailerRead (now (last .entry)) r ⌝ }
 {
     Trailer {
-        rows: number_of(&last[0..4]),
-        columns: number_of(&last[4..6]),
-        version: number_of(&last[6..8]),
-        directory: number_of(&last[8..12]),
-        mark: number_of(&last[12..16]),
+        rows: numbers::number_of(&last[0..4]),
+        columns: numbers::number_of(&last[4..6]),
+        version: numbers::number_of(&last[6..8]),
+        directory: numbers::number_of(&last[8..12]),
+        mark: numbers::number_of(&last[12..16]),
     }
 }
 
@@ -213,10 +192,10 @@ fn unfit_entry(entry: &[u8], offset: usize) -> bool
     if codes::unfit_width(entry[0]) {
         return true;
     }
-    if number_of(&entry[1..4]) != 0 {
+    if numbers::number_of(&entry[1..4]) != 0 {
         return true;
     }
-    number_of(&entry[4..8]) != offset
+    numbers::number_of(&entry[4..8]) != offset
 }
 
 // Goes through the directory column by column, and ends at the first that is unfit.

@@ -8,7 +8,7 @@ use query::Test;
 use register::Opened;
 use register::Shape;
 ghost use mathlib.Core.Path.{_≡_};
-ghost use Prim.Native.Nat.{_+_, _≤_, min};
+ghost use Prim.Native.Nat.{_+_, _≤_};
 ghost use mathlib.Core.Bool.{false};
 ghost use lib.ListN.{length, getD};
 ghost use Rattle.limits.specs.Limits.{mostTests};
@@ -87,7 +87,7 @@ pub fn scan_rows(
     let mut matches: usize = 0;
     let mut first = 0;
     while first < rows {
-        let n = least(size, rows - first);
+        let n = numbers::least(size, rows - first);
         let segment = segment::scan_segment(
             file,
             rows,
@@ -117,12 +117,6 @@ pub fn scan_rows(
         counts,
         total,
     }
-}
-
-fn least(a: usize, b: usize) -> usize
-    ensures { λ r. ⌜ r ≡ min a b ⌝ }
-{
-    if a < b { a } else { b }
 }
 
 // Adds a segment's counts to those so far.

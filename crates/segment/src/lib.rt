@@ -95,16 +95,10 @@ fn high_of(width: u8, literal: u64, slice: usize) -> u8
 {
     let low = codes::byte_of(width, literal, slice);
     if slice + 1 == codes::slices_of(width) {
-        (wide(low) + (codes::unit_of(width) - 1)) as u8
+        (codes::wide(low) + (codes::unit_of(width) - 1)) as u8
     } else {
         low
     }
-}
-
-fn wide(x: u8) -> u64
-    ensures { λ r. ⌜ (r ≡ x) × (r < 256) ⌝ }
-{
-    x as u64
 }
 
 // Scans one segment of n rows: all tests take slice j before any row is ruled out by it, and the slices

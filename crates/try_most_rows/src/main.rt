@@ -183,7 +183,7 @@ fn test(comparison: Comparison) -> Test
 // holds then.
 fn show(name: &[u8], file: &[u8], size: usize, query: Query, result: &mut [u8], room: usize) {
     fill(result);
-    let kept = least(room, result.len());
+    let kept = numbers::least(room, result.len());
     let scanned = scan::scan(file, size, query, &mut result[..kept]);
     io::write_all(STDOUT_FILENO, name);
     say_reply(scanned);
@@ -200,12 +200,6 @@ fn fill(result: &mut [u8])
     }
 }
 
-fn least(a: usize, b: usize) -> usize
-    ensures { λ r. ⌜ r ≤ b ⌝ }
-{
-    if a < b { a } else { b }
-}
-
 // A running sum over the bytes that a result needs, so that each byte and its place tell.
 fn digest_of(result: &[u8]) -> usize
     ensures { λ r. ⌜ r < 65521 ⌝ }
@@ -215,7 +209,7 @@ fn digest_of(result: &[u8]) -> usize
     }
     let mut digest: usize = 0;
     for i in 0..NEED {
-        digest = (digest * 31 + wide(result[i])) % 65521;
+        digest = (digest * 31 + numbers::wide(result[i])) % 65521;
     }
     digest
 }
@@ -225,16 +219,10 @@ fn byte_after(result: &[u8]) -> usize
     ensures { λ r. ⌜ r ≡ getD (now (result .entry)) 131072 0 ⌝ }
 {
     if NEED < result.len() {
-        wide(result[NEED])
+        numbers::wide(result[NEED])
     } else {
         0
     }
-}
-
-fn wide(x: u8) -> usize
-    ensures { λ r. ⌜ (r ≡ x) × (r < 256) ⌝ }
-{
-    x as usize
 }
 
 fn say_reply(scanned: Scanned) {

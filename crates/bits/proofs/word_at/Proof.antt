@@ -1,9 +1,10 @@
--- `bits::word_at` meets its contract: the marked rows are cut at a byte. Assumes nothing.
+-- `bits::word_at` meets its contract: the rows marked there are the set bits of the number that the bytes make. Assumes nothing.
 use Prim.Native.Nat.{ℕ, _+_, _-_}
 use native.Mathlib.Omega.{arith}
-use mathlib.Core.Path.{_≡_, ap}
+use mathlib.Core.Path.{_≡_, ap, _∙_}
 use borrow.Author.Needs.{needs}
 use lib.ListN.{take, drop}
+use Rattle.basis.specs.Numbers.{little}
 use Rattle.bits.proofs.Words.{word-read}
 use Rattle.bits.proofs.word_at.Statement.{statement}
 use Rattle.bits.proofs.word_at.Tie as tie
@@ -11,17 +12,17 @@ use Rattle.bits.proofs.word_at.Tie as tie
 add-end : tie.Need-add-end
 add-end c = search needs
 
-sub-word-of : tie.Need-sub-word-of
-sub-word-of c = search needs
+sub-number-of : tie.Need-sub-number-of
+sub-number-of c = search needs
 
-part-word-of-start : tie.Need-part-word-of-start
-part-word-of-start c = search needs
+part-number-of-start : tie.Need-part-number-of-start
+part-number-of-start c = search needs
 
-part-word-of-end : tie.Need-part-word-of-end
-part-word-of-end c = search needs
+part-number-of-end : tie.Need-part-number-of-end
+part-number-of-end c = search needs
 
-word-of-requires : tie.Need-word-of-requires
-word-of-requires c κs = search needs
+number-of-requires : tie.Need-number-of-requires
+number-of-requires c κs = search needs
 
 returns : tie.Need-returns
 returns c =
@@ -30,9 +31,10 @@ returns c =
     let i = start .args .i in
     let many = start .args .many in
     let size : i + many - i ≡ many = omega arith in
-    word-read bits i many (c .word-of .result) _ (start .pre .1) (ap (λ (n : ℕ). take n (drop i bits)) size) (c .word-of .ensures)
+    word-read bits i many (start .pre .0) (start .pre .1) (λ k. omega (arith, c .before .before .shared-slice-known .given k))
+    (c .number-of .result) (c .number-of .ensures .0 ∙ ap (λ (n : ℕ). little (take n (drop i bits))) size)
 
 pub word-at-spec : {M : Type 1} → statement M
 word-at-spec =
     tie.close
-    (tie.spec add-end sub-word-of part-word-of-start part-word-of-end word-of-requires returns)
+    (tie.spec add-end sub-number-of part-number-of-start part-number-of-end number-of-requires returns)

@@ -1,6 +1,8 @@
 -- `register::read_trailer` meets its contract: each number is read where the definition has it. Assumes nothing.
+use native.Mathlib.Omega.{arith}
 use borrow.Author.Needs.{needs}
 use Rattle.basis.specs.Numbers.{numberAt}
+use Rattle.basis.proofs.Numbers.{four-bytes}
 use Rattle.register.proofs.read_trailer.Statement.{statement}
 use Rattle.register.proofs.read_trailer.Tie as tie
 
@@ -77,7 +79,7 @@ returns c =
       version = version .number-of3 .ensures .0;
       directory = directory .number-of4 .ensures .0;
       mark = c .number-of5 .ensures .0;
-      directory-small = directory .number-of4 .ensures .1;
+      directory-small = four-bytes _ _ (omega arith) (directory .number-of4 .ensures .1);
     }
 
 pub read-trailer-spec : {M : Type 1} → statement M
