@@ -10,6 +10,7 @@ use mathlib.Core.Bool.{Bool, true, false, _&&_, cond}
 use borrow.Author.Tests.{le-ltb}
 use lib.Dec.{ltb}
 use lib.ListN.{getD, List·getD-eq-default}
+use Rattle.basis.proofs.Truth.{at-most-one}
 use Rattle.basis.proofs.Runs.{within-or-past, mapped-at}
 use Rattle.bits.specs.Bits.{bytesFor, bitsAt, bitsOf, bitIn}
 use Rattle.bits.proofs.Packed.{length-bits}
@@ -18,10 +19,6 @@ use Rattle.bits.proofs.Packed.{length-bits}
 weight-of : (is : Bool) (weight : ℕ) → cond is weight 0 ≡ weight * cond is 1 0
 weight-of true weight = omega arith
 weight-of false weight = omega arith
-
-bit-or-none : (is : Bool) → cond is 1 0 ≤ 1
-bit-or-none true = omega arith
-bit-or-none false = omega arith
 
 -- eight bits with their weights, as a number
 abbrev eight : (ℕ → ℕ) → ℕ
@@ -74,7 +71,7 @@ bit-is-found found rows row = go (within-or-past (row / 8) (bytesFor rows))
         let byte : getD (bitsOf found rows) (row / 8) 0 ≡ eight (λ k. cond (is (8 * (row / 8) + k)) 1 0) =
         mapped-at (bitsAt found rows) (bytesFor rows) (row / 8) 0 inside ∙ byte-is-eight found rows (row / 8) in
         ap (λ (b : ℕ). b / 2 ^ (row % 8) % 2) byte
-        ∙ read-off (λ k. cond (is (8 * (row / 8) + k)) 1 0) (λ k. bit-or-none (is (8 * (row / 8) + k))) (row % 8) (omega arith)
+        ∙ read-off (λ k. cond (is (8 * (row / 8) + k)) 1 0) (λ k. at-most-one (is (8 * (row / 8) + k)) .0) (row % 8) (omega arith)
         ∙ ap (λ (i : ℕ). cond (is i) 1 0) place
     go (inr past) =
         let none : getD (bitsOf found rows) (row / 8) 0 ≡ 0 =

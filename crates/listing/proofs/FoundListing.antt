@@ -22,7 +22,7 @@ use Rattle.bits.specs.Marked.{markedBelow}
 use Rattle.pieces.specs.Pieces.{Wrote, PieceWritten}
 use Rattle.pieces.proofs.WholePiece.{whole-piece}
 use Rattle.lines.specs.Lines.{headLine, refusedLine}
-use Rattle.lines.proofs.Shapes.{same-rows, same-columns}
+use Rattle.register.proofs.Fit.{rows-as-opened, columns-as-opened}
 use Rattle.listing.specs.declared.Found.{Found}
 use Rattle.listing.specs.Listing.{scanFor, testLines, rowLines, answerLines, refusedOr, listingOf, Listed}
 use Rattle.listing.specs.Found.{refusalFor, FoundBy, FoundIn, Listable, foundLines}
@@ -76,7 +76,7 @@ module _ (file : List ℕ) (asked : Asked) (bits : List ℕ) (found : Found) (ma
       same-lines (found .refusal) (accepted file bits found) answer
       (λ none.
       let rows = made .rows none in
-      rw (rows .rows, same-rows file (found .shape) (rows .opened), rows .matches, rows .counts, rows .query))
+      rw (rows .rows, rows-as-opened file (found .shape) (rows .opened), rows .matches, rows .counts, rows .query))
       ∙ ap (λ (r : Refusal). refusedOr r answer) (made .refusal)
       ∙ sym (first-told (asked .refusal) (scanFor file asked .refusal) answer)
 
@@ -94,7 +94,7 @@ module _ (file : List ℕ) (asked : Asked) (bits : List ℕ) (found : Found) (ma
       let small = reads-small reads in
       let passed = accepted-scan file asked (scan-passed (rw (made .refusal) at none)) in
       let columns = columns-below file (asked .size) (asked .query) (bytesFor mostRows) passed (small .0) (small .1) in
-      (rows .opened, rw (rows .query) (small .0), rw (rows .query, same-columns file (found .shape) (rows .opened)) columns)
+      (rows .opened, rw (rows .query) (small .0), rw (rows .query, columns-as-opened file (found .shape) (rows .opened)) columns)
 
 pub listed-in : (file text bits : List ℕ) (found : Found) → FoundIn file text bits found → (from : ℕ) (before : List ℕ) {after : List ℕ}
     {answer : ℕ} → PieceWritten (foundLines file bits found) from before after answer → Listed file text from before after answer

@@ -15,7 +15,7 @@ use Rattle.answers.specs.declared.Refusal.{Refusal}
 use Rattle.register.specs.declared.Shape.{Shape}
 use Rattle.register.specs.declared.Opened.the-variants.{Register, Refused}
 use Rattle.limits.specs.Limits.{mostRows}
-use Rattle.register.proofs.Fit.{few-rows-as-opened}
+use Rattle.register.proofs.Fit.{rows-as-opened, few-rows-as-opened}
 use Rattle.query.specs.declared.Query.{Query}
 use Rattle.text.specs.declared.Asked.{Asked}
 use Rattle.asking.specs.Refusals.{askedOf}
@@ -26,7 +26,6 @@ use Rattle.scan.specs.Answers.{accepted, scannedOf, foundBits}
 use Rattle.scan.proofs.Outcomes.{asked-first}
 use Rattle.scan.proofs.Outcomes as outcomes
 use Rattle.scan.proofs.Accepting.{Accepted}
-use Rattle.lines.proofs.Shapes.{same-rows}
 use Rattle.listing.specs.declared.Found.{Found}
 use Rattle.listing.specs.Listing.{scanFor}
 use Rattle.listing.specs.Found.{refusalFor, FoundBy}
@@ -101,7 +100,7 @@ module _ (file : List ℕ) (asked : Asked) where
               matches = ap (λ (s : Scanned). s .matches) same;
               counts = ap (λ (s : Scanned). s .counts) same;
               rows =
-                  rw (same-rows file shape opened, both .1)
+                  rw (rows-as-opened file shape opened, both .1)
                   (found-rows file (asked .size) (asked .query) out (rw long (accepted-scan file asked (rw same at none))));
             };
           }

@@ -7,11 +7,12 @@ use Prim.Native.Nat.{ℕ, _+_, _*_, _/_, _%_, _≤_}
 use native.Mathlib.Omega.{arith}
 use mathlib.Core.Path.{_≡_, _∙_, ap, sym}
 use mathlib.Core.List.{List, map, map-map}
-use mathlib.Core.Bool.{Bool, true, false, cond}
+use mathlib.Core.Bool.{Bool, cond}
 use lib.Dec.{T, eqb, eqb→eq}
 use lib.ListN.{length, getD, take}
 use lib.Seq.{take-all}
 use Rattle.basis.specs.Lists.{all, below}
+use Rattle.basis.proofs.Truth.{at-most-one}
 use Rattle.basis.proofs.Tables.{everyEntry, entry-passes}
 use Rattle.basis.proofs.Lists.{sum-at-most}
 use Rattle.basis.proofs.Those.{length-those}
@@ -36,11 +37,7 @@ pub few-places : (byte : ℕ) → length (placesOf byte) ≤ 8
 unfolding placesIn
 few-places byte =
     rw (length-those (isSet byte) (below 8))
-    (sum-at-most (λ k. cond (isSet byte k) 1 0) 1 8 (λ k h. bit-or-none (isSet byte k)))
-  where
-    bit-or-none : (is : Bool) → cond is 1 0 ≤ 1
-    bit-or-none true = omega arith
-    bit-or-none false = omega arith
+    (sum-at-most (λ k. cond (isSet byte k) 1 0) 1 8 (λ k h. at-most-one (isSet byte k) .0))
 
 pub places-by-number : (byte first : ℕ) →
     map (λ k. first + getD (placesOf byte) k 0) (below (length (placesOf byte))) ≡ map (λ p. first + p) (placesOf byte)

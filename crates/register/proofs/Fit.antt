@@ -4,11 +4,13 @@
 --   opened-passes       where a file opens, no line of the table answers
 --   opened-is-fit       a file that opens has them
 --   rows-as-opened, columns-as-opened    the shape that opening tells is the file's
---   few-rows-as-opened  and its rows are not too many
+--   few-rows-as-opened, few-columns-as-opened    and its rows and columns are not too many
 --   width-as-opened     a column of it has a width between 1 and the widest
+--   few-bytes-as-opened    so the bytes of a column are not too many
 --   fit-is-opened       a file that has them opens
 use Prim.Native.Nat.{ℕ, _+_, _*_, _≤_, _<_}
 use native.Mathlib.Omega.{arith}
+use native.Mathlib.Nat.{mul-le-mul}
 use mathlib.Core.Path.{_≡_, refl, sym, ap}
 use mathlib.Core.List.{List}
 use mathlib.Core.Bool.{false, not}
@@ -20,9 +22,11 @@ use Rattle.basis.specs.Refusals.{Line, answerBy, firstLine}
 use Rattle.basis.proofs.Truth.{neither}
 use Rattle.basis.proofs.Refusals.{none-when-accepted, each-fails}
 use Rattle.basis.proofs.Places.{none-before-first, first-is-none}
+use Rattle.codes.specs.Width.{slicesOf}
+use Rattle.codes.proofs.Width.{few-slices-of}
 use Rattle.register.specs.declared.Shape.{Shape}
 use Rattle.register.specs.declared.Opened.the-variants.{Register, Refused}
-use Rattle.limits.specs.Limits.{mostRows, mostColumns, widest, entryBytes, trailerBytes}
+use Rattle.limits.specs.Limits.{mostRows, mostColumns, widest, mostSlices, entryBytes, trailerBytes}
 use Rattle.register.specs.Layout.{bytesBefore}
 use Rattle.register.specs.File.{rowsIn, columnsIn, versionIn, directoryIn, markIn, mark, widthIn, unfitColumn}
 use Rattle.answers.specs.Answers.{refusal}
@@ -86,12 +90,22 @@ pub few-rows-as-opened : (file : List ℕ) (shape : Shape) → openedOf file ≡
 few-rows-as-opened file shape opened =
     omega (arith, rows-as-opened file shape opened, opened-is-fit file shape opened .0 .few-rows)
 
+pub few-columns-as-opened : (file : List ℕ) (shape : Shape) → openedOf file ≡ Register shape → shape .columns ≤ mostColumns
+few-columns-as-opened file shape opened =
+    omega (arith, columns-as-opened file shape opened, opened-is-fit file shape opened .0 .few-columns)
+
 pub width-as-opened : (file : List ℕ) (shape : Shape) → openedOf file ≡ Register shape → (column : ℕ) → column < shape .columns →
     (0 < widthIn file column) × (widthIn file column ≤ widest)
 width-as-opened file shape opened column there =
     let inside : column < columnsIn file = omega (arith, columns-as-opened file shape opened) in
     let known = fit-column file column (opened-is-fit file shape opened .0 .each-fit column inside) in
     (known .some, known .narrow)
+
+pub few-bytes-as-opened : (file : List ℕ) (shape : Shape) → openedOf file ≡ Register shape → (column : ℕ) → column < shape .columns →
+    shape .rows * slicesOf (widthIn file column) ≤ mostRows * mostSlices
+few-bytes-as-opened file shape opened column there =
+    let narrow = width-as-opened file shape opened column there .1 in
+    mul-le-mul (few-rows-as-opened file shape opened) (few-slices-of (widthIn file column) narrow)
 
 pub fit-is-opened : (file : List ℕ) → Fit file → openedOf file ≡ Register (shapeIn file)
 fit-is-opened file fit =

@@ -10,7 +10,7 @@ use Rattle.decimals.specs.Decimals.{decimal, space}
 use Rattle.pieces.specs.Pieces.{Wrote}
 use Rattle.lines.specs.Lines.{cells}
 use Rattle.pieces.proofs.Writing.{same-room, wrote-nothing, written-then}
-use Rattle.lines.proofs.Shapes.{few-columns}
+use Rattle.register.proofs.Fit.{few-columns-as-opened}
 use Rattle.lines.proofs.put_cells.Statement.{statement}
 use Rattle.lines.proofs.put_cells.Tie as tie
 
@@ -39,7 +39,7 @@ code-at-requires c κs =
 put-cell-requires : tie.Need-put-cell-requires Inv-loop μ-loop
 put-cell-requires c κs =
     let start = c .before .before .before .before .before .before in
-    omega (arith, few-columns _ (start .args .shape) (start .pre .1))
+    omega (arith, few-columns-as-opened _ (start .args .shape) (start .pre .1))
 
 add-column : tie.Need-add-column Inv-loop μ-loop
 add-column c = omega arith
@@ -68,7 +68,7 @@ returns c =
     let turn = c .before .loop in
     let start = c .before .before .before .before in
     let all : turn .column ≡ start .args .shape .columns = omega arith in
-    (rw all at (turn .inv .1 .1), omega (arith, few-columns _ (start .args .shape) (start .pre .1)))
+    (rw all at (turn .inv .1 .1), omega (arith, few-columns-as-opened _ (start .args .shape) (start .pre .1)))
 
 pub put-cells-spec : {M : Type 1} → statement M
 put-cells-spec =

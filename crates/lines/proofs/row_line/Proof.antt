@@ -3,7 +3,7 @@ use native.Mathlib.Omega.{arith}
 use borrow.Author.Needs.{needs}
 use Rattle.lines.specs.Lines.{rowLine}
 use Rattle.pieces.proofs.Writing.{written-then}
-use Rattle.lines.proofs.Shapes.{same-columns}
+use Rattle.register.proofs.Fit.{columns-as-opened}
 use Rattle.lines.proofs.row_line.Statement.{statement}
 use Rattle.lines.proofs.row_line.Tie as tie
 
@@ -37,7 +37,7 @@ returns c =
     let step2 = step3 .before .before .before .before in
     let step1 = step2 .before .before .before .before in
     let start = step1 .before .before .before .before .before in
-    let columns = same-columns _ (start .args .shape) (start .pre .1) in
+    let columns = columns-as-opened _ (start .args .shape) (start .pre .1) in
     let codes = written-then (rw columns at (step4 .put-cells .ensures .0)) (step5 .put2 .ensures) in
     let number = written-then (step2 .put-decimal .ensures .0) (written-then (step3 .put .ensures) codes) in
     let word = step1 .put-word .ensures .behind in

@@ -9,7 +9,7 @@ use Rattle.pieces.specs.Pieces.{Wrote}
 use Rattle.listing.specs.Listing.{rowLines}
 use Rattle.pieces.proofs.Writing.{same-room, wrote-nothing, written-then}
 use Rattle.listing.proofs.OneMore.{row-more}
-use Rattle.lines.proofs.Shapes.{few-rows}
+use Rattle.register.proofs.Fit.{few-rows-as-opened}
 use Rattle.listing.proofs.row_lines.Statement.{statement}
 use Rattle.listing.proofs.row_lines.Tie as tie
 
@@ -27,7 +27,7 @@ loop-holds c = (omega arith, (omega arith, wrote-nothing _ _ _))
 put-row-requires : tie.Need-put-row-requires Inv-loop μ-loop
 put-row-requires c κs =
     let start = c .before .before .before .before .before .before in
-    (omega (arith, few-rows _ (start .args .shape) (start .pre .1)), start .pre .1, omega arith)
+    (omega (arith, few-rows-as-opened _ (start .args .shape) (start .pre .1)), start .pre .1, omega arith)
 
 add-row : tie.Need-add-row Inv-loop μ-loop
 add-row c = omega arith

@@ -10,7 +10,7 @@ use Rattle.pieces.specs.Pieces.{Wrote}
 use Rattle.listing.specs.Listing.{testLines}
 use Rattle.pieces.proofs.Writing.{same-room, wrote-nothing, written-then}
 use Rattle.listing.proofs.OneMore.{test-more}
-use Rattle.lines.proofs.Shapes.{same-rows, few-bytes}
+use Rattle.register.proofs.Fit.{rows-as-opened, few-bytes-as-opened}
 use Rattle.listing.proofs.test_lines.Statement.{statement}
 use Rattle.listing.proofs.test_lines.Tie as tie
 
@@ -49,7 +49,7 @@ mul-test-line-2 : tie.Need-mul-test-line-2 Inv-loop μ-loop
 mul-test-line-2 c =
     let start = c .before .before .before .before .before .before .before .before in
     let width = c .before .before in
-    let bytes = few-bytes _ (start .args .shape) (start .pre .1) _ (start .pre .3 _ (width .before .before .loop-test .taken)) in
+    let bytes = few-bytes-as-opened _ (start .args .shape) (start .pre .1) _ (start .pre .3 _ (width .before .before .loop-test .taken)) in
     let slices = c .slices-of .ensures ∙ ap slicesOf (width .width-at .ensures) in
     let product : start .args .shape .rows * c .slices-of .result ≤ mostRows * mostSlices = rw slices bytes in
     omega (arith, product)
@@ -71,7 +71,7 @@ loop-again c =
     let turn = width .before .before .before .loop in
     let start = width .before .before .before .before .before .before in
     let slices = sliced .slices-of .ensures ∙ ap slicesOf (width .width-at .ensures) in
-    let most = ap₂ (λ (a b : ℕ). a * b) (same-rows _ (start .args .shape) (start .pre .1)) slices in (
+    let most = ap₂ (λ (a b : ℕ). a * b) (rows-as-opened _ (start .args .shape) (start .pre .1)) slices in (
       omega arith,
       (
         omega (arith, line .test-line .ensures .1),

@@ -11,7 +11,8 @@ use Rattle.basis.specs.Buffers.{laid}
 use Rattle.basis.proofs.Buffers.{laid-each}
 use Rattle.register.specs.Cells.{codeAt}
 use Rattle.lookup.specs.LookingUp.{codesOf}
-use Rattle.lookup.proofs.Rows.{some-width, narrow, row-within, code-gathered}
+use Rattle.register.proofs.Fit.{width-as-opened}
+use Rattle.lookup.proofs.Rows.{row-within, code-gathered}
 use Rattle.lookup.proofs.write_codes.Statement.{statement}
 use Rattle.lookup.proofs.write_codes.Tie as tie
 
@@ -37,7 +38,7 @@ code-here c =
     let start = width .before .before .before .before in
     c .code-of .ensures
     ∙ rw (width .width-at .ensures, c .before .before .before .before .before .offset-at .ensures, c .before .wide .ensures)
-    (sym (code-gathered _ _ (start .pre .0 .0) _ (start .pre .0 .1) _))
+    (sym (code-gathered _ _ (start .pre .0 .0) _ _))
 
 loop-holds : tie.Need-loop-holds Inv-loop μ-loop
 loop-holds c = (omega arith, refl, refl)
@@ -57,8 +58,9 @@ code-of-requires c κs =
     let start = width .before .before .before .before in
     let opened = start .pre .0 .0 in
     let there = start .pre .0 .1 in
+    let known = width-as-opened _ _ opened _ there in
     rw (width .width-at .ensures, c .before .before .before .before .offset-at .ensures, c .wide .ensures)
-    (some-width _ _ opened _ there, narrow _ _ opened _ there, row-within _ _ opened _ there _ (start .pre .1 _ (c .before .before .loop-test .taken)))
+    (known .0, known .1, row-within _ _ opened _ _ there (start .pre .1 _ (c .before .before .loop-test .taken)))
 
 mul-out : tie.Need-mul-out Inv-loop μ-loop
 mul-out c = omega arith
