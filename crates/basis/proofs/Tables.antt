@@ -15,18 +15,19 @@ everyEntry test first [] = true
 everyEntry test first (entry ∷ table) = test first entry && everyEntry test (suc first) table
 
 -- counted from any first place
-passes-from : {A : Type 0} (test : ℕ → A → Bool) (none : A) (first : ℕ) (table : List A) → T (everyEntry test first table) → (k : ℕ) → k < length table →
-    T (test (first + k) (getD table k none))
+passes-from : {A : Type 0} (test : ℕ → A → Bool) (none : A) (first : ℕ) (table : List A) → T (everyEntry test first table) →
+    (k : ℕ) → k < length table → T (test (first + k) (getD table k none))
 passes-from test none first [] passed k h = absurd (omega arith)
 passes-from test none first (entry ∷ table) passed zero h =
     let place : first + 0 ≡ first = omega arith in
     rw place (both (test first entry) (everyEntry test (suc first) table) passed .0)
 passes-from test none first (entry ∷ table) passed (suc k) h =
     let place : first + suc k ≡ suc first + k = omega arith in
-    rw place (passes-from test none (suc first) table (both (test first entry) (everyEntry test (suc first) table) passed .1) k (omega arith))
+    let rest = both (test first entry) (everyEntry test (suc first) table) passed .1 in
+    rw place (passes-from test none (suc first) table rest k (omega arith))
 
-pub entry-passes : {A : Type 0} (test : ℕ → A → Bool) (none : A) (table : List A) → T (everyEntry test 0 table) → (k : ℕ) → k < length table →
-    T (test k (getD table k none))
+pub entry-passes : {A : Type 0} (test : ℕ → A → Bool) (none : A) (table : List A) → T (everyEntry test 0 table) →
+    (k : ℕ) → k < length table → T (test k (getD table k none))
 entry-passes test none table passed k h =
     let place : 0 + k ≡ k = omega arith in
     rw place at (passes-from test none 0 table passed k h)

@@ -16,7 +16,8 @@ module _ (file : List ℕ) (asked : Asked) (before : List ℕ) where
   abbrev Replied : List ℕ → List ℕ → Type 0
   Replied reply after = (reply ≡ scanReply (scanOf file asked (length before))) × (after ≡ resultOf file asked before)
 
-  pub text-refused : (asked .refusal .number ≡ 0 → ⊥) → (reply : List ℕ) → reply ≡ scanReply (refused (asked .refusal)) → Replied reply before
+  pub text-refused : (asked .refusal .number ≡ 0 → ⊥) → (reply : List ℕ) →
+      reply ≡ scanReply (refused (asked .refusal)) → Replied reply before
   unfolding scanOf resultOf
   text-refused unread reply e = rw (ne-eqb (asked .refusal .number) 0 unread) (e, refl)
 

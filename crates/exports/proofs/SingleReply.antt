@@ -1,6 +1,6 @@
 -- The promises of the calls for C and Rust admit one reply each, and one content of each buffer. Each promise is the call's own, its
--- `ensures` as the check reads them: of the lifetimes κs, of what is lent, and of what was lent as it stands at exit, the reply last. A call
--- answers nothing else, so its result r is the same in all. Assumes nothing.
+-- `ensures` as the check reads them: of the lifetimes κs, of what is lent, and of what was lent as it stands at exit, the reply last.
+-- A call answers nothing else, so its result r is the same in all. Assumes nothing.
 --   one-read, one-scan    said of the definitions, by what the text asks
 --   one-bsl-..            a theorem for each call
 use Prim.Native.Nat.{ℕ}

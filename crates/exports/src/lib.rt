@@ -48,7 +48,8 @@ pub extern "C" fn bsl_write(
     out: &mut [u8],
     reply: &mut [u64; ANSWER_NUMBERS],
 )
-    ensures reply { λ _. ⌜ now (reply .exit) ≡ writing.shownFor rows (now (widths .entry)) (now (codes .entry)) (length (now (out .entry))) ⌝ }
+    ensures reply { λ _. ⌜ now (reply .exit) ≡
+        writing.shownFor rows (now (widths .entry)) (now (codes .entry)) (length (now (out .entry))) ⌝ }
     ensures left { λ _. ⌜ now (out .exit) ≡ writing.leftIn rows (now (widths .entry)) (now (codes .entry)) (now (out .entry)) ⌝ }
 {
     let written = writer::write(rows, widths, codes, out);
@@ -117,7 +118,8 @@ pub extern "C" fn bsl_lookup(
     out: &mut [u64],
     reply: &mut [u64; ANSWER_NUMBERS],
 )
-    ensures reply { λ _. ⌜ now (reply .exit) ≡ looking.shownFor (now (file .entry)) column (now (rows .entry)) (length (now (out .entry))) ⌝ }
+    ensures reply { λ _. ⌜ now (reply .exit) ≡
+        looking.shownFor (now (file .entry)) column (now (rows .entry)) (length (now (out .entry))) ⌝ }
     ensures left { λ _. ⌜ now (out .exit) ≡ looking.leftIn (now (file .entry)) column (now (rows .entry)) (now (out .entry)) ⌝ }
 {
     let looked_up = lookup::look_up(file, column, rows, out);

@@ -1,6 +1,6 @@
 -- What the error number of a write says. Assumes nothing.
 --   later-by, failed-by    a number that passes, and one that does not, as the machine holds it
-use Prim.Native.Nat.{ℕ, suc, _<_, _^_}
+use Prim.Native.Nat.{ℕ, _<_, _^_}
 use native.Mathlib.Omega.{arith}
 use mathlib.Core.Path.{_≡_, refl}
 use mathlib.Core.Bool.{true}

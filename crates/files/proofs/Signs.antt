@@ -1,7 +1,7 @@
 -- What the sign of the system's answer says: below 0 it failed. Assumes nothing.
 --   failed, came      a read's answer
 --   opened            what opening answered, where it is not below 0
-use Prim.Native.Nat.{ℕ, suc}
+use Prim.Native.Nat.{ℕ}
 use native.Mathlib.Omega.{arith}
 use mathlib.Core.Path.{_≡_, refl}
 use mathlib.Core.Bool.{true, false}

@@ -79,7 +79,8 @@ pub fn row_line(
 // A row's code in every column, a space before each.
 fn put_cells(out: &mut [u8], from: usize, at: usize, file: &[u8], shape: Shape, row: usize) -> usize
     requires { ⌜ (at < 2 ^ 60 + 100) × (openedOf (now file) ≡ Register shape) × (row < shape .rows) ⌝ }
-    ensures { λ r. ⌜ Wrote from at (cells (now (file .entry)) row (shape .columns)) (now (out .entry)) (now (out .exit)) r × (r ≤ at + mostColumns * longestCell) ⌝ }
+    ensures { λ r. ⌜ Wrote from at (cells (now (file .entry)) row (shape .columns)) (now (out .entry)) (now (out .exit)) r
+        × (r ≤ at + mostColumns * longestCell) ⌝ }
 {
     let columns = shape.columns;
     let mut next = at;

@@ -196,8 +196,10 @@ fn test_lines(
     count: usize,
     counts: [usize; MOST_TESTS],
 ) -> usize
-    requires { ⌜ (at ≤ longestLine) × (openedOf (now file) ≡ Register shape) × (count ≤ mostTests) × ColumnsBelow (shape .columns) tests count ⌝ }
-    ensures { λ r. ⌜ Wrote from at (testLines (now (file .entry)) tests counts count) (now (out .entry)) (now (out .exit)) r × (r ≤ longestLine * suc mostTests) ⌝ }
+    requires { ⌜ (at ≤ longestLine) × (openedOf (now file) ≡ Register shape) × (count ≤ mostTests)
+        × ColumnsBelow (shape .columns) tests count ⌝ }
+    ensures { λ r. ⌜ Wrote from at (testLines (now (file .entry)) tests counts count) (now (out .entry)) (now (out .exit)) r
+        × (r ≤ longestLine * suc mostTests) ⌝ }
 {
     let rows = shape.rows;
     let mut next = at;
@@ -229,7 +231,8 @@ fn row_lines(
     bits: &[u8],
 ) -> usize
     requires { ⌜ (at ≤ longestLine * suc mostTests) × (openedOf (now file) ≡ Register shape) ⌝ }
-    ensures { λ r. ⌜ Wrote from at (rowLines (now (file .entry)) (markedBelow (shape .rows) (now (bits .entry)))) (now (out .entry)) (now (out .exit)) r ⌝ }
+    ensures { λ r. ⌜ Wrote from at (rowLines (now (file .entry)) (markedBelow (shape .rows) (now (bits .entry))))
+        (now (out .entry)) (now (out .exit)) r ⌝ }
 {
     let rows = shape.rows;
     let mut next = at;
@@ -252,7 +255,8 @@ fn put_row(
     row: usize,
 ) -> usize
     requires { ⌜ (at < 2 ^ 60) × (openedOf (now file) ≡ Register shape) × (row < shape .rows) ⌝ }
-    ensures { λ r. ⌜ Wrote from at (rowLines (now (file .entry)) (those (marked (now (bits .entry))) (row ∷ []))) (now (out .entry)) (now (out .exit)) r × (r ≤ at + longestLine) ⌝ }
+    ensures { λ r. ⌜ Wrote from at (rowLines (now (file .entry)) (those (marked (now (bits .entry))) (row ∷ [])))
+        (now (out .entry)) (now (out .exit)) r × (r ≤ at + longestLine) ⌝ }
 {
     if bits::is_marked(bits, row) {
         return row_line(out, from, at, file, shape, row);

@@ -1,5 +1,6 @@
 -- The promise of looking up admits one reply and one content of the output. It is the call's own promise, every `ensures` of its
--- source as the check reads it: of the lifetimes κs, of what is lent, of the reply, and of what was lent as it stands at exit. Assumes nothing.
+-- source as the check reads it: of the lifetimes κs, of what is lent, of the reply, and of what was lent as it stands at exit.
+-- Assumes nothing.
 --   one-lookup    the reply, and what the output, the last that is lent, holds at exit
 use mathlib.Core.Path.{_≡_}
 use denote.Ref.{now}

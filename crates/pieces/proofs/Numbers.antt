@@ -18,7 +18,8 @@ short-in zero n = omega arith
 short-in (suc more) n = go (ltb n 10) (short-in more (n / 10))
   where
     go : (small : Bool) → length (decimalIn more (n / 10)) ≤ more →
-        length {A = ℕ} (elim small as (λ small. List ℕ) [ true ↦ digit n ∷ [] | false ↦ decimalIn more (n / 10) ++ (digit (n % 10) ∷ []) ]) ≤
+        length {A = ℕ}
+        (elim small as (λ small. List ℕ) [ true ↦ digit n ∷ [] | false ↦ decimalIn more (n / 10) ++ (digit (n % 10) ∷ []) ]) ≤
         suc more
     go true front = omega arith
     go false front = rw length-append (omega arith)

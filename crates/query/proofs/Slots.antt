@@ -12,7 +12,8 @@ use native.Mathlib.Nat.{le-dest}
 use native.Mathlib.Numerals.{add-one}
 use mathlib.Core.Path.{_≡_, sym, ap, _∙_}
 use mathlib.Core.List.{List, [], _∷_, _++_, append-assoc}
-use lib.ListN.{length, getD, take, set, replicate, length-append, length-take, length-replicate, getD-replicate, List·getD-append, replicate-append-replicate}
+use lib.ListN.{length, getD, take, set, replicate, length-append, length-take, length-replicate, getD-replicate}
+use lib.ListN.{List·getD-append, replicate-append-replicate}
 use lib.Seq.{getD-take, getD-append-add, take-append-le, take-append-seam, take-take, take-set-lt, set-append-seam}
 
 abbrev pub filled : {A : Type 0} → A → ℕ → List A → List A

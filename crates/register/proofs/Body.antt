@@ -1,8 +1,6 @@
 -- Every byte that a row has in a column of an opened file lies in the file's body, before its directory. Assumes nothing.
---   among-all     the slices before a column, and its own, are among all slices
---   in-the-body   before the directory
---   in-the-file   so within the file
---   byte-as-opened  in the words of the shape that opening tells
+--   among-all         the slices before a column, and its own, are among all slices
+--   byte-as-opened    the byte of a slice and a row that are there stands in the file
 use Prim.Native.Nat.{ℕ, suc, _+_, _*_, _≤_, _<_}
 use native.Mathlib.Omega.{arith}
 use native.Mathlib.Nat.{mul-le-mul-left, mul-add, mul-suc, mul-comm}
@@ -42,7 +40,7 @@ module _ (file : List ℕ) (fit : Fit file) (column slice row : ℕ) (column-the
       let most = mul-le-mul-left rows (among-all (widthIn file) column (columnsIn file) column-there) in
       omega (arith, fit .whole, mul-add rows before (slicesOf (widthIn file column)))
 
-  pub in-the-file : offsetIn file column + slice * rowsIn file + row < length file
+  in-the-file : offsetIn file column + slice * rowsIn file + row < length file
   in-the-file = omega (arith, in-the-body, fit .placed)
 
 pub byte-as-opened : (file : List ℕ) (shape : Shape) → openedOf file ≡ Register shape → (column slice row : ℕ) →

@@ -22,7 +22,8 @@ use Rattle.register.specs.Layout.{slicesBefore, bytesBefore}
 use Rattle.register.specs.File.{rowsIn, directoryIn, entryIn, widthOf, spareOf, offsetOf, widthIn, offsetIn, unfitEntry, unfitColumn}
 
 pub entry-cut : (file : List ℕ) (from column : ℕ) → from ≡ directoryIn file + entryBytes * column → from + entryBytes ≤ length file →
-    (take (from + entryBytes - from) (drop from file) ≡ entryIn file column) × (length (take (from + entryBytes - from) (drop from file)) ≡ entryBytes)
+    (take (from + entryBytes - from) (drop from file) ≡ entryIn file column)
+    × (length (take (from + entryBytes - from) (drop from file)) ≡ entryBytes)
 unfolding entryIn
 entry-cut file from column at fits =
     let eight : from + entryBytes - from ≡ entryBytes = omega arith in
@@ -54,5 +55,6 @@ pub one-more-column : (width : ℕ → ℕ) (column : ℕ) →
 unfolding slicesBefore
 one-more-column width column = sum-one-more (λ earlier. slicesOf (width earlier)) column
 
-pub few-bytes : (rows slices column : ℕ) → rows ≤ mostRows → slices ≤ mostSlices * column → column ≤ mostColumns → rows * slices ≤ mostRows * (mostSlices * mostColumns)
+pub few-bytes : (rows slices column : ℕ) → rows ≤ mostRows → slices ≤ mostSlices * column → column ≤ mostColumns →
+    rows * slices ≤ mostRows * (mostSlices * mostColumns)
 few-bytes rows slices column few-rows few few-columns = mul-le-mul {n₂ = mostRows} {m₂ = mostSlices * mostColumns} few-rows (omega arith)

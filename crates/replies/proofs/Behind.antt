@@ -37,7 +37,8 @@ each-number list long = by-number list mostTests 0 long
 abbrev pub slotAt : List Test → ℕ → List ℕ
 slotAt tests t = slotReply (testAt tests t)
 
-pub each-slot : (tests : List Test) → length tests ≡ mostTests → flatten (map (slotAt tests) (below mostTests)) ≡ flatten (map slotReply tests)
+pub each-slot : (tests : List Test) → length tests ≡ mostTests →
+    flatten (map (slotAt tests) (below mostTests)) ≡ flatten (map slotReply tests)
 each-slot tests long =
     ap flatten (sym (map-map slotReply (testAt tests) (below mostTests)) ∙ ap (map slotReply) (by-number tests mostTests emptySlot long))
 

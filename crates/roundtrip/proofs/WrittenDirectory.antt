@@ -43,10 +43,12 @@ module _ (rows : ℕ) (widths codes : List ℕ) (fit-widths : FitWidths widths) 
   module _ (column : ℕ) (there : column < length widths) where
     -- where the entry stands
     entry-there :
-        PartAt (fileOf rows widths codes) (bytesBefore rows (widthOf widths) (length widths) + entryBytes * column) (entryOf rows widths column)
+        PartAt (fileOf rows widths codes) (bytesBefore rows (widthOf widths) (length widths) + entryBytes * column)
+        (entryOf rows widths column)
     unfolding fileOf directoryOf
     entry-there =
-        let among = joined-part (entryOf rows widths) column (length widths) (entryBytes * column) there (length-entries rows widths column) in
+        let entries = length-entries rows widths column in
+        let among = joined-part (entryOf rows widths) column (length widths) (entryBytes * column) there entries in
         part-behind (bodyOf rows widths codes) _ (length-bodyOf rows widths codes) (part-in-front (trailerOf rows widths) among)
 
     pub written-entry : entryIn (fileOf rows widths codes) column ≡ entryOf rows widths column

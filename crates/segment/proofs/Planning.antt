@@ -69,7 +69,8 @@ module _ (file : List ℕ) (tests : List Test) (t : ℕ) (offsets slices lows hi
         to-high =
             λ u j h.
             below-more
-            (λ v. j < slicesOf (widthAt v) → getD highs′ (v * mostSlices + j) 0 ≡ highOf (widthAt v) j (byteOf (widthAt v) (literalAt v) j)) t
+            (λ v. j < slicesOf (widthAt v) →
+            getD highs′ (v * mostSlices + j) 0 ≡ highOf (widthAt v) j (byteOf (widthAt v) (literalAt v) j)) t
             (λ v earlier within. high .before (v * mostSlices + j) (in-front v j earlier within) ∙ before .to-high v j earlier within)
             (high .inside j) u h;
       }

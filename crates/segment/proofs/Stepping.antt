@@ -38,7 +38,8 @@ module _ {file : List ℕ} {rows first n : ℕ} {tests : List Test} {count : ℕ
         let g : Work = record { file = file; tests = tests; count = count; first = first; n = n } in
         let from = getD offsets t 0 + j * rows + first in
         s ≡ kept (standingTo g t j k) →
-        steppedRow s (getD lows (t * mostSlices + j) 0) (getD highs (t * mostSlices + j) 0) (getD (take (from + n - from) (drop from file)) k 0) ≡
+        steppedRow s (getD lows (t * mostSlices + j) 0) (getD highs (t * mostSlices + j) 0)
+        (getD (take (from + n - from) (drop from file)) k 0) ≡
         kept (standingTo g t (j + 1) k)
     steps-right there s k h stands =
         let g : Work = record { file = file; tests = tests; count = count; first = first; n = n } in

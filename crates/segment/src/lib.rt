@@ -75,9 +75,11 @@ fn plan_bytes(
     highs: &mut [u8; PLAN_PLACES],
     base: usize,
 )
-    requires { ⌜ FitLiteral width literal × (base + mostSlices ≤ planPlaces) × (length (now lows) ≡ planPlaces) × (length (now highs) ≡ planPlaces) ⌝ }
+    requires { ⌜ FitLiteral width literal × (base + mostSlices ≤ planPlaces)
+        × (length (now lows) ≡ planPlaces) × (length (now highs) ≡ planPlaces) ⌝ }
     ensures low { λ _. ⌜ Swept (now (lows .entry)) (now (lows .exit)) base (slicesOf width) (λ j. byteOf width literal j) ⌝ }
-    ensures high { λ _. ⌜ Swept (now (highs .entry)) (now (highs .exit)) base (slicesOf width) (λ j. highOf width j (byteOf width literal j)) ⌝ }
+    ensures high { λ _. ⌜ Swept (now (highs .entry)) (now (highs .exit)) base (slicesOf width)
+        (λ j. highOf width j (byteOf width literal j)) ⌝ }
 {
     let slices = codes::slices_of(width);
     let mut j = 0;

@@ -30,10 +30,11 @@ use Rattle.settled.specs.Table.{Example, table}
 
 pub settled : map (λ (example : Example). answer (example .asked)) table ≡ map (λ (example : Example). example .told) table
 unfolding table twoRows tenRows tenCodes oneByte noRows joined big padOf slicesOf
-    opens.shownFor opens.openLines trailerIn entryIn numberAt little mark firstPlace unfitColumn unfitEntry unfitWidth widthIn offsetIn slicesBefore
+    opens.shownFor opens.openLines trailerIn entryIn numberAt little mark firstPlace
+    unfitColumn unfitEntry unfitWidth widthIn offsetIn slicesBefore
     shownFor leftBy writes.writeLines fileLength fileOf bodyOf columnOf sliceOf directoryOf entryWith trailerOf trailerWith
     flatten toLittle byteOf bytesOf storedOf toBig tooLarge scanReply scans.scannedOf scans.accepted scans.leftIn scans.foundBits
-    bitsOf bitsAt bytesFor queryLines testsLines unfitSize byteAt standing ruledOut keepsOpen counts countIn count total found matches segmentCount
-    segment segments lastSlice clearedByte lists.listLines unfitBits markedPast
+    bitsOf bitsAt bytesFor queryLines testsLines unfitSize byteAt standing ruledOut keepsOpen counts countIn count total
+    found matches segmentCount segment segments lastSlice clearedByte lists.listLines unfitBits markedPast
     markedBelow bitIn
 settled = refl

@@ -73,7 +73,8 @@ fn write_block_column(
     requires { ⌜ FitWidths (now widths) ⌝ }
     requires { ⌜ FitCodes rows (now widths) (now codes) ⌝ }
     requires { ⌜ FitBlock rows (now widths) first n (now out) ⌝ }
-    requires { ⌜ (column < length (now widths)) × (slices ≡ slicesBefore (widthOf (now widths)) column) × (slices ≤ mostSlices * mostColumns) ⌝ }
+    requires { ⌜ (column < length (now widths)) × (slices ≡ slicesBefore (widthOf (now widths)) column)
+        × (slices ≤ mostSlices * mostColumns) ⌝ }
     ensures { λ _. ⌜ Put rows (bodyOf rows (now (widths .entry)) (now (codes .entry))) (now (out .entry)) (now (out .exit))
         first (first + n) slices (slices + slicesOf (widthOf (now (widths .entry)) column)) ⌝ }
 {

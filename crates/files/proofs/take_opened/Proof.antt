@@ -6,7 +6,10 @@ use Rattle.files.proofs.take_opened.Statement.{statement}
 use Rattle.files.proofs.take_opened.Tie as tie
 
 returns-2 : tie.Need-returns-2
-returns-2 c = (search needs, λ none. absurd (opened (c .before .before .before .before .before .before .before .args .fd) (rw (toZ-ofZ (c .before .before .before .before .before .before .before .fits .fd)) at (c .before .before .before .before .before .if1 .left)) none))
+returns-2 c =
+    let kept = c .before .before .before .before .before in
+    let start = kept .before .before in
+    (search needs, λ none. absurd (opened (start .args .fd) (rw (toZ-ofZ (start .fits .fd)) at (kept .if1 .left)) none))
 
 pub take-opened-spec : {M : Type 1} → statement M
 take-opened-spec =

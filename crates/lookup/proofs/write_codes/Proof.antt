@@ -32,7 +32,8 @@ offset-at-requires c κs = (c .before .before .before .before .pre .0 .0, c .bef
 -- what is stored is the code of the row at hand
 code-here : (c : tie.After-code-of Inv-loop μ-loop) →
     let start = c .before .before .before .before .before .before .before .before .before .before in
-    c .code-of .result ≡ codeAt (start .args .file .now) (start .args .column) (getD (start .args .list .now) (c .before .before .before .before .loop .i) 0)
+    let row = getD (start .args .list .now) (c .before .before .before .before .loop .i) 0 in
+    c .code-of .result ≡ codeAt (start .args .file .now) (start .args .column) row
 code-here c =
     let width = c .before .before .before .before .before .before in
     let start = width .before .before .before .before in

@@ -18,7 +18,8 @@ returns-3 c = c .bench-of .ensures ∙ ap (codeOf (c .before .before .args .row)
 returns-4 : tie.Need-returns-4
 returns-4 c =
     let none = c .before .match .rest in
-    c .site-of .ensures ∙ last-column (c .before .before .args .row) (c .before .before .args .column) (none .0 .0 .1) (none .0 .1) (none .1)
+    c .site-of .ensures
+    ∙ last-column (c .before .before .args .row) (c .before .before .args .column) (none .0 .0 .1) (none .0 .1) (none .1)
 
 pub code-of-spec : {M : Type 1} → statement M
 code-of-spec =

@@ -57,7 +57,9 @@ wide-requires : tie.Need-wide-requires Inv-loop μ-loop
 wide-requires c κs = search needs
 
 add-number : tie.Need-add-number Inv-loop μ-loop
-add-number c = omega (arith, room _ _ _ (c .before .before .before .loop .inv) (c .before .before .before .before .before .pre) (omega arith))
+add-number c =
+    let turn = c .before .before .before in
+    omega (arith, room _ _ _ (turn .loop .inv) (turn .before .before .pre) (omega arith))
 
 loop-less : tie.Need-loop-less Inv-loop μ-loop
 loop-less c = omega arith
@@ -71,7 +73,8 @@ returns : tie.Need-returns Inv-loop μ-loop
 returns c =
     let turn = c .before .loop in
     let end : turn .left ≡ 0 = omega arith in
-    let all : length (c .before .before .before .args .bytes .now) - turn .left ≡ length (c .before .before .before .args .bytes .now) = omega arith in
+    let long = length (c .before .before .before .args .bytes .now) in
+    let all : long - turn .left ≡ long = omega arith in
     (rw end at (turn .inv .1), rw all at (turn .inv .2))
 
 pub number-of-spec : {M : Type 1} → statement M

@@ -67,7 +67,8 @@ unfit-as-said : (c : tie.After-unfit-entry Inv-loop μ-loop) →
 unfit-as-said c =
     let turn = c .before .before in
     let pre = turn .before .before .before .pre .0 in
-    sym (c .unfit-entry .ensures ∙ unfit-by-entry (fileOf turn) (entryOf turn) _ _ _ (here turn .0) (pre .0) (turn .before .loop .inv .counted))
+    let counted = turn .before .loop .inv .counted in
+    sym (c .unfit-entry .ensures ∙ unfit-by-entry (fileOf turn) (entryOf turn) _ _ _ (here turn .0) (pre .0) counted)
 
 -- a column found fit is passed
 passed : (c : tie.After-slices-of Inv-loop μ-loop) →

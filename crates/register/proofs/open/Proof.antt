@@ -106,8 +106,9 @@ body : (c : tie.Else8) → trailerAt (read-8 c) .rows * c .before .before .befor
 body c =
     let far = c .before .before .before in
     let read = read-8 c in
+    let most = first-at-most (unfitColumn (fileAt read)) (columnsIn (fileAt read)) in
     let all : far .fit-columns .result .place ≡ columnsIn (fileAt read) =
-    omega (arith, known read .columns, c .if8 .left, first-unfit far, first-at-most (unfitColumn (fileAt read)) (columnsIn (fileAt read))) in
+    omega (arith, known read .columns, c .if8 .left, first-unfit far, most) in
     ap₂ _*_ (known read .rows) (far .fit-columns .ensures .1 ∙ ap (slicesBefore (widthIn (fileAt read))) all)
 
 returns : tie.Need-returns
@@ -121,7 +122,8 @@ unfolding openLines mark little
 returns-2 c =
     let read = c .before .before .before in
     let other = differs (markIn (fileAt read)) mark (λ e. c .before .if2 .taken (known read .mark ∙ e)) in
-    opening.refused-by _ (stops (past-0 (fileAt read)) (right-holds (ltb (length (fileAt read)) trailerBytes) _ other)) (c .refused2 .ensures)
+    opening.refused-by _ (stops (past-0 (fileAt read)) (right-holds (ltb (length (fileAt read)) trailerBytes) _ other))
+    (c .refused2 .ensures)
 
 returns-3 : tie.Need-returns-3
 unfolding openLines

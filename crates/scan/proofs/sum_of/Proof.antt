@@ -29,7 +29,8 @@ add-total : tie.Need-add-total Inv-loop μ-loop
 add-total c =
     let turn = c .before .before .loop in
     let start = c .before .before .before in
-    let so-far = sum-at-most (λ k. getD (start .args .counts .now) k 0) (mostRows * mostSlices) (turn .t) (λ k h. start .pre k (omega arith)) in
+    let so-far =
+    sum-at-most (λ k. getD (start .args .counts .now) k 0) (mostRows * mostSlices) (turn .t) (λ k h. start .pre k (omega arith)) in
     omega (arith, start .pre (turn .t) (omega arith))
 
 add-t : tie.Need-add-t Inv-loop μ-loop

@@ -1,4 +1,5 @@
--- `segment::plan_of` meets its contract: the plan of the tests passed stands, and each turn puts the next test's behind it. Assumes nothing.
+-- `segment::plan_of` meets its contract: the plan of the tests passed stands, and each turn puts the next test's behind it.
+-- Assumes nothing.
 use Prim.Native.Nat.{ℕ, _-_, _≤_}
 use native.Mathlib.Omega.{arith}
 use mathlib.Core.Path.{_≡_, refl, ap, subst, _∙_}

@@ -23,7 +23,8 @@ abbrev μ-loop : tie.MeasureT-loop
 μ-loop n inside₀ r₀ inside r = n - r
 
 -- ones to the front of zeros
-ones-then-zeros : (inside : List ℕ) (n k : ℕ) → Swept (replicate longestSegment 0) inside 0 n (λ k. 1) → getD inside k 0 ≡ cond (ltb k n) 1 0
+ones-then-zeros : (inside : List ℕ) (n k : ℕ) → Swept (replicate longestSegment 0) inside 0 n (λ k. 1) →
+    getD inside k 0 ≡ cond (ltb k n) 1 0
 ones-then-zeros inside n k swept =
     ⊎-elim (λ (in-front : k < n). swept-from-front swept k in-front ∙ rw (lt-ltb k n in-front))
     (λ (past : n ≤ k). swept .behind k (omega arith) ∙ all-zero longestSegment k ∙ rw (le-ltb k n past))

@@ -1,7 +1,7 @@
 -- `try_most_rows::put_codes` meets its contract: the codes of the rows passed are in place. Assumes nothing.
 use Prim.Native.Nat.{_+_, _-_, _/_, _≤_}
 use mathlib.Core.Path.{_≡_, refl, _∙_}
-use lib.ListN.{length, length-set, getD, set}
+use lib.ListN.{length, length-set, set}
 use lib.Seq.{getD-set-same, getD-set-other}
 use borrow.Author.Count.{below-none, below-more}
 use Rattle.try_most_rows.specs.Made.{codeOf, HasCodes}

@@ -1,6 +1,6 @@
 -- `writer::write` meets its contract: each test of the code is a line of the table, in its order, and past all of them the
 -- file is written. Assumes nothing.
-use Prim.Native.Nat.{ℕ, _+_, _*_, _^_, _≤_}
+use Prim.Native.Nat.{ℕ, _+_, _*_, _≤_}
 use native.Mathlib.Omega.{arith}
 use mathlib.Core.Path.{_≡_, ap}
 use borrow.Author.Needs.{needs}
@@ -91,13 +91,16 @@ body-end : (c : tie.After-slices-in) →
 body-end c = ap (λ (slices : ℕ). start-10 c .args .rows * slices) (c .slices-in .ensures .0)
 
 file-end : (c : tie.After-slices-in) →
-    let widths = start-10 c .args .widths .now in bodyAt c + entryBytes * length widths + trailerBytes ≡ fileLength (start-10 c .args .rows) widths
+    let widths = start-10 c .args .widths .now in
+    bodyAt c + entryBytes * length widths + trailerBytes ≡ fileLength (start-10 c .args .rows) widths
 unfolding fileLength
 file-end c = omega (arith, body-end c)
 
 -- neither wraps
 small : (c : tie.After-slices-in) → bodyAt c ≤ mostRows * (mostSlices * mostColumns)
-small c = few-bytes _ (c .slices-in .result) mostColumns (fit-codes (c .before) .few-rows) (omega (arith, c .slices-in .ensures .1)) (omega arith)
+small c =
+    few-bytes _ (c .slices-in .result) mostColumns (fit-codes (c .before) .few-rows) (omega (arith, c .slices-in .ensures .1))
+    (omega arith)
 
 returns : tie.Need-returns
 unfolding writeLines
