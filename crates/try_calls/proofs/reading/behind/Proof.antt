@@ -1,8 +1,8 @@
 -- `try_calls::reading::behind` meets its contract: what is passed holds none of the bytes. Assumes nothing.
-use Prim.Native.Nat.{ℕ, _+_, _-_, _≤_, _<_}
-use mathlib.Core.Path.{_≡_, refl, sym, ap, _∙_}
+use Prim.Native.Nat.{_+_, _-_, _≤_}
+use mathlib.Core.Path.{_≡_, refl}
 use native.Mathlib.Omega.{arith}
-use lib.ListN.{length, getD, take, drop, set, drop-of-length-le}
+use lib.ListN.{length, drop, drop-of-length-le}
 use Rattle.try_calls.specs.Requests.{behindOf}
 use Rattle.try_calls.proofs.Requests.{counted, here, later}
 use borrow.Author.Needs.{needs}

@@ -1,9 +1,9 @@
 -- `try_calls::reading::copy_rows` meets its contract: the numbers that are passed are small and stand in the output. Assumes nothing.
-use Prim.Native.Nat.{ℕ, _+_, _-_, _≤_, _<_}
-use mathlib.Core.Path.{_≡_, refl, sym, ap, _∙_}
+use Prim.Native.Nat.{_+_, _-_, _≤_, _<_}
+use mathlib.Core.Path.{_≡_, refl}
 use native.Mathlib.Omega.{arith}
 use native.Mathlib.Numerals.{add-one}
-use lib.ListN.{length, getD, take, drop, set, drop-of-length-le}
+use lib.ListN.{length, take, drop, drop-of-length-le}
 use lib.ListN.{length-set}
 use lib.Seq.{take-suc, take-suc-set}
 use Rattle.try_calls.specs.Requests.{smallOf}

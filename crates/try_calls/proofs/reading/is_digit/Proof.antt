@@ -1,7 +1,6 @@
 -- `try_calls::reading::is_digit` meets its contract. Assumes nothing.
-use mathlib.Core.Path.{_≡_, refl, sym, ap, _∙_}
+use mathlib.Core.Path.{refl}
 use borrow.Author.Tests.{lt-ltb, le-ltb}
-use borrow.Author.Needs.{needs}
 use Rattle.try_calls.proofs.reading.is_digit.Statement.{statement}
 use Rattle.try_calls.proofs.reading.is_digit.Tie as tie
 
