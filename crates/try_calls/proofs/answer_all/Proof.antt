@@ -28,19 +28,19 @@ part-answer-end c =
 
 loop-less : tie.Need-loop-less Inv-loop μ-loop
 loop-less c =
-    let turn = c .before .before .before .before .before .before .before .before .loop in
+    let begun = c .before .before .before .before .before .before .before .before in
+    let turn = begun .loop in
     let line = c .before .before .before .before .before .behind .ensures .1 in
-    let rest =
-    rest-length (c .before .before .before .before .before .before .before .before .before .before .before .args .requests .now) (turn .at) in
+    let rest = rest-length (begun .before .before .before .args .requests .now) (turn .at) in
     let some = line .1 (rw rest (omega arith)) in
     omega (arith, line .0 .0, rest, some)
 
 loop-again : tie.Need-loop-again Inv-loop μ-loop
 loop-again c =
-    let turn = c .before .before .before .before .before .before .before .before .loop in
+    let begun = c .before .before .before .before .before .before .before .before in
+    let turn = begun .loop in
     let line = c .before .before .before .before .before .behind .ensures .1 in
-    let rest =
-    rest-length (c .before .before .before .before .before .before .before .before .before .before .before .args .requests .now) (turn .at) in
+    let rest = rest-length (begun .before .before .before .args .requests .now) (turn .at) in
     let some = line .1 (rw rest (omega arith)) in
     (omega (arith, line .0 .0, rest), omega (arith, rest, some), search needs)
 

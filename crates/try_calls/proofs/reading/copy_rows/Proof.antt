@@ -14,7 +14,8 @@ use Rattle.try_calls.proofs.reading.copy_rows.Tie as tie
 
 abbrev Inv-loop : tie.InvT-loop
 Inv-loop numbers out₀ i₀ out i =
-    (i ≤ length numbers) × (i ≤ length out) × (length out ≡ length out₀) × (smallOf 4294967295 numbers ≡ i + smallOf 4294967295 (drop i numbers))
+    (i ≤ length numbers) × (i ≤ length out) × (length out ≡ length out₀)
+    × (smallOf 4294967295 numbers ≡ i + smallOf 4294967295 (drop i numbers))
     × (take i out ≡ take i numbers)
 
 abbrev μ-loop : tie.MeasureT-loop

@@ -8,7 +8,8 @@ use mathlib.Core.Bool.{true, false}
 use lib.ListN.{length, getD, take, drop, length-set}
 use lib.Seq.{length-take-le}
 use Rattle.try_calls.specs.Requests.{isDigit, numbersIn, numbersAfter, many, large}
-use Rattle.try_calls.proofs.Requests.{counted, grown, ended, skipped, digit-from, last-ended, none-begun, pushed, longer, large-stays, member-behind}
+use Rattle.try_calls.proofs.Requests.{counted, grown, ended, skipped, digit-from, last-ended, none-begun}
+use Rattle.try_calls.proofs.Requests.{pushed, longer, large-stays, member-behind}
 use borrow.Author.Needs.{needs}
 use Rattle.try_calls.proofs.reading.numbers_of.Statement.{statement}
 use Rattle.try_calls.proofs.reading.numbers_of.Tie as tie
@@ -62,7 +63,8 @@ returns-2 c =
     let other : isDigit (getD text (turn .i) 0) ≡ false =
     sym (c .before .before .before .is-digit .ensures) ∙ c .before .before .if1 .left in
     let all : numbersIn text ≡ front ++ (turn .value ∷ numbersAfter false 0 (drop (turn .i + 1) text)) =
-    turn .inv .3 ∙ ap (λ (l : List ℕ). front ++ l) (rw (c .before .if3 .taken) (ended text (turn .i) (omega arith) (turn .value) other)) in
+    turn .inv .3
+    ∙ ap (λ (l : List ℕ). front ++ l) (rw (c .before .if3 .taken) (ended text (turn .i) (omega arith) (turn .value) other)) in
     let many-more = longer _ front _ _ all in
     (many (omega (arith, many-more, length-take-le (turn .count) (turn .out) (turn .inv .1), turn .inv .2)), counted _ _ (turn .inv .1))
 
@@ -74,7 +76,8 @@ loop-again-2 c =
     let other : isDigit (getD text (turn .i) 0) ≡ false =
     sym (c .before .before .before .is-digit .ensures) ∙ c .before .before .if1 .left in
     let all : numbersIn text ≡ front ++ (turn .value ∷ numbersAfter false 0 (drop (turn .i + 1) text)) =
-    turn .inv .3 ∙ ap (λ (l : List ℕ). front ++ l) (rw (c .before .if3 .taken) (ended text (turn .i) (omega arith) (turn .value) other)) in (
+    turn .inv .3
+    ∙ ap (λ (l : List ℕ). front ++ l) (rw (c .before .if3 .taken) (ended text (turn .i) (omega arith) (turn .value) other)) in (
       omega arith,
       simp length-set (omega arith),
       simp length-set (turn .inv .2),
