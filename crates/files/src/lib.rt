@@ -10,9 +10,6 @@ ghost use lib.Dec.{eqb};
 ghost use lib.ListN.{length};
 ghost use Rattle.files.specs.Taking.{numberOf, countOf, takenBy, TakenInto, NotOpened};
 
-// The largest file that a program takes, in bytes. It lends one more, so that a larger file shows.
-pub const MOST_BYTES: usize = 65536;
-
 // How many bytes were put at the start of the buffer, or that a read failed.
 pub enum Taken {
     Bytes(usize),

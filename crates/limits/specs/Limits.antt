@@ -1,5 +1,5 @@
 -- How large everything may be. Each limit has its one name here, and a bound elsewhere is a product of these names. Assumes nothing.
-use Prim.Native.Nat.{ℕ, _+_, _*_, _/_, _^_}
+use Prim.Native.Nat.{ℕ, _+_, _*_, _^_}
 
 -- a register: rows 0 to 1,048,576, columns 1 to 32
 abbrev pub mostRows : ℕ
@@ -14,10 +14,6 @@ widest = 32
 
 abbrev pub mostSlices : ℕ
 mostSlices = 4
-
--- a result: a bit for each row, in bytes
-abbrev pub mostBits : ℕ
-mostBits = mostRows / 8
 
 -- a file ends with a directory of 8 bytes a column and a trailer of 16; a number in them has at most four bytes
 abbrev pub entryBytes : ℕ
