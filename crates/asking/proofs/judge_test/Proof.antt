@@ -26,28 +26,16 @@ literal-is : (c : tie.After-too-large) →
     tooLarge (widthIn (a .file .now) (a .test .column)) (literalOf (a .test .comparison)) ≡ c .too-large .result
 literal-is c = sym (c .too-large .ensures ∙ ap₂ tooLarge (c .before .width-at .ensures) (c .before .before .literal-of .ensures))
 
-unfit-requires : tie.Need-unfit-requires
-unfit-requires c κs = search needs
-
 returns : tie.Need-returns
 returns c =
     let start = c .before .before .before .before in
     let missing = rw (columns-as-opened _ _ (start .pre)) at (c .before .if1 .taken) in
     c .unfit .ensures ∙ sym (judging.no-such-column _ _ (start .args .test) missing)
 
-literal-of-requires : tie.Need-literal-of-requires
-literal-of-requires c κs = search needs
-
-width-at-requires : tie.Need-width-at-requires
-width-at-requires c κs = search needs
-
 too-large-requires : tie.Need-too-large-requires
 too-large-requires c κs =
     let here = c .before .before in
     rw (c .width-at .ensures) (width-as-opened _ _ (startOf here .pre) _ (here .if1 .left) .1)
-
-unfit-requires-2 : tie.Need-unfit-requires-2
-unfit-requires-2 c κs = search needs
 
 returns-2 : tie.Need-returns-2
 returns-2 c =
@@ -65,11 +53,11 @@ pub judge-test-spec : {M : Type 1} → statement M
 judge-test-spec =
     tie.close
     (tie.spec
-    unfit-requires
+    (λ c κs. search needs)
     returns
-    literal-of-requires
-    width-at-requires
+    (λ c κs. search needs)
+    (λ c κs. search needs)
     too-large-requires
-    unfit-requires-2
+    (λ c κs. search needs)
     returns-2
     returns-3)

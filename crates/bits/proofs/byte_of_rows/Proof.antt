@@ -20,26 +20,11 @@ whole : (c : tie.Start) →
 whole c =
     omega (arith, c .pre .0 .each (c .args .at), few c 1, few c 2, few c 3, few c 4, few c 5, few c 6, few c 7)
 
-element-copy-out-result : tie.Need-element-copy-out-result
-element-copy-out-result c = search needs
-
-add-result : tie.Need-add-result
-add-result c = search needs
-
-element-copy-out-result-2 : tie.Need-element-copy-out-result-2
-element-copy-out-result-2 c = search needs
-
 mul-result : tie.Need-mul-result
 mul-result c = omega (arith, whole (c .before .before))
 
 add-result-2 : tie.Need-add-result-2
 add-result-2 c = omega (arith, whole (c .before .before))
-
-add-result-3 : tie.Need-add-result-3
-add-result-3 c = search needs
-
-element-copy-out-result-3 : tie.Need-element-copy-out-result-3
-element-copy-out-result-3 c = search needs
 
 mul-result-2 : tie.Need-mul-result-2
 mul-result-2 c = omega (arith, whole (c .before .before .before))
@@ -47,23 +32,11 @@ mul-result-2 c = omega (arith, whole (c .before .before .before))
 add-result-4 : tie.Need-add-result-4
 add-result-4 c = omega (arith, whole (c .before .before .before))
 
-add-result-5 : tie.Need-add-result-5
-add-result-5 c = search needs
-
-element-copy-out-result-4 : tie.Need-element-copy-out-result-4
-element-copy-out-result-4 c = search needs
-
 mul-result-3 : tie.Need-mul-result-3
 mul-result-3 c = omega (arith, whole (c .before .before .before .before))
 
 add-result-6 : tie.Need-add-result-6
 add-result-6 c = omega (arith, whole (c .before .before .before .before))
-
-add-result-7 : tie.Need-add-result-7
-add-result-7 c = search needs
-
-element-copy-out-result-5 : tie.Need-element-copy-out-result-5
-element-copy-out-result-5 c = search needs
 
 mul-result-4 : tie.Need-mul-result-4
 mul-result-4 c = omega (arith, whole (c .before .before .before .before .before))
@@ -71,35 +44,17 @@ mul-result-4 c = omega (arith, whole (c .before .before .before .before .before)
 add-result-8 : tie.Need-add-result-8
 add-result-8 c = omega (arith, whole (c .before .before .before .before .before))
 
-add-result-9 : tie.Need-add-result-9
-add-result-9 c = search needs
-
-element-copy-out-result-6 : tie.Need-element-copy-out-result-6
-element-copy-out-result-6 c = search needs
-
 mul-result-5 : tie.Need-mul-result-5
 mul-result-5 c = omega (arith, whole (c .before .before .before .before .before .before))
 
 add-result-10 : tie.Need-add-result-10
 add-result-10 c = omega (arith, whole (c .before .before .before .before .before .before))
 
-add-result-11 : tie.Need-add-result-11
-add-result-11 c = search needs
-
-element-copy-out-result-7 : tie.Need-element-copy-out-result-7
-element-copy-out-result-7 c = search needs
-
 mul-result-6 : tie.Need-mul-result-6
 mul-result-6 c = omega (arith, whole (c .before .before .before .before .before .before .before))
 
 add-result-12 : tie.Need-add-result-12
 add-result-12 c = omega (arith, whole (c .before .before .before .before .before .before .before))
-
-add-result-13 : tie.Need-add-result-13
-add-result-13 c = search needs
-
-element-copy-out-result-8 : tie.Need-element-copy-out-result-8
-element-copy-out-result-8 c = search needs
 
 mul-result-7 : tie.Need-mul-result-7
 mul-result-7 c = omega (arith, whole (c .before .before .before .before .before .before .before .before))
@@ -118,33 +73,33 @@ pub byte-of-rows-spec : {M : Type 1} → statement M
 byte-of-rows-spec =
     tie.close
     (tie.spec
-    element-copy-out-result
-    add-result
-    element-copy-out-result-2
+    (λ c. search needs)
+    (λ c. search needs)
+    (λ c. search needs)
     mul-result
     add-result-2
-    add-result-3
-    element-copy-out-result-3
+    (λ c. search needs)
+    (λ c. search needs)
     mul-result-2
     add-result-4
-    add-result-5
-    element-copy-out-result-4
+    (λ c. search needs)
+    (λ c. search needs)
     mul-result-3
     add-result-6
-    add-result-7
-    element-copy-out-result-5
+    (λ c. search needs)
+    (λ c. search needs)
     mul-result-4
     add-result-8
-    add-result-9
-    element-copy-out-result-6
+    (λ c. search needs)
+    (λ c. search needs)
     mul-result-5
     add-result-10
-    add-result-11
-    element-copy-out-result-7
+    (λ c. search needs)
+    (λ c. search needs)
     mul-result-6
     add-result-12
-    add-result-13
-    element-copy-out-result-8
+    (λ c. search needs)
+    (λ c. search needs)
     mul-result-7
     add-result-14
     returns)

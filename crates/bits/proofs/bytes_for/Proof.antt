@@ -5,12 +5,9 @@ use Rattle.bits.specs.Bits.{bytesFor}
 use Rattle.bits.proofs.bytes_for.Statement.{statement}
 use Rattle.bits.proofs.bytes_for.Tie as tie
 
-add-result : tie.Need-add-result
-add-result c = search needs
-
 returns : tie.Need-returns
 unfolding bytesFor
 returns c = refl
 
 pub bytes-for-spec : {M : Type 1} → statement M
-bytes-for-spec = tie.close (tie.spec add-result returns)
+bytes-for-spec = tie.close (tie.spec (λ c. search needs) returns)

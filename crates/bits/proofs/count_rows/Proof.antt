@@ -19,23 +19,11 @@ loop-holds : tie.Need-loop-holds Inv-loop μ-loop
 unfolding markedBelow
 loop-holds c = (omega arith, refl, omega arith)
 
-add-loop : tie.Need-add-loop Inv-loop μ-loop
-add-loop c = omega arith
-
 word-at-requires : tie.Need-word-at-requires Inv-loop μ-loop
 word-at-requires c κs = (omega arith, omega arith)
 
-ones-in-requires : tie.Need-ones-in-requires Inv-loop μ-loop
-ones-in-requires c κs = search needs
-
 add-many : tie.Need-add-many Inv-loop μ-loop
 add-many c = omega (arith, c .ones-in .ensures .1)
-
-add-i : tie.Need-add-i Inv-loop μ-loop
-add-i c = omega arith
-
-loop-less : tie.Need-loop-less Inv-loop μ-loop
-loop-less c = omega arith
 
 loop-again : tie.Need-loop-again Inv-loop μ-loop
 loop-again c =
@@ -46,14 +34,8 @@ loop-again c =
       omega (arith, c .ones-in .ensures .1),
     )
 
-sub-word-at : tie.Need-sub-word-at Inv-loop μ-loop
-sub-word-at c = omega arith
-
 word-at-requires-2 : tie.Need-word-at-requires-2 Inv-loop μ-loop
 word-at-requires-2 c κs = (omega arith, omega arith)
-
-ones-in-requires-2 : tie.Need-ones-in-requires-2 Inv-loop μ-loop
-ones-in-requires-2 c κs = search needs
 
 add-result : tie.Need-add-result Inv-loop μ-loop
 add-result c = omega (arith, c .ones-in2 .ensures .1)
@@ -75,15 +57,15 @@ count-rows-spec =
     Inv-loop
     μ-loop
     loop-holds
-    add-loop
+    (λ c. omega arith)
     word-at-requires
-    ones-in-requires
+    (λ c κs. search needs)
     add-many
-    add-i
-    loop-less
+    (λ c. omega arith)
+    (λ c. omega arith)
     loop-again
-    sub-word-at
+    (λ c. omega arith)
     word-at-requires-2
-    ones-in-requires-2
+    (λ c κs. search needs)
     add-result
     returns)

@@ -22,15 +22,6 @@ returns c =
     let none = List·getD-eq-default (a .bits .now) 0 (c .if1 .taken) in
     rw (none, zero-div (2 ^ (a .row % 8)))
 
-shl-weight : tie.Need-shl-weight
-shl-weight c = search needs
-
-shared-slice-read-wide : tie.Need-shared-slice-read-wide
-shared-slice-read-wide c = search needs
-
-wide-requires : tie.Need-wide-requires
-wide-requires c κs = search needs
-
 div-result : tie.Need-div-result
 div-result c = let row = c .before .before .before .before .args .row in omega (arith, weight row, pow-pos (row % 8))
 
@@ -41,4 +32,4 @@ returns-2 c =
     ap (λ (w : ℕ). eqb (c .wide .result / w % 2) 1) (weight row) ∙ rw (c .wide .ensures .0)
 
 pub is-marked-spec : {M : Type 1} → statement M
-is-marked-spec = tie.close (tie.spec returns shl-weight shared-slice-read-wide wide-requires div-result returns-2)
+is-marked-spec = tie.close (tie.spec returns (λ c. search needs) (λ c. search needs) (λ c κs. search needs) div-result returns-2)

@@ -14,15 +14,9 @@ use Rattle.bits.proofs.marked_past.Tie as tie
 returns : tie.Need-returns
 returns c = sym (whole-bytes (c .before .before .args .rows) _ (c .if1 .taken))
 
-shl-weight : tie.Need-shl-weight
-shl-weight c = search needs
-
 shared-slice-read-wide : tie.Need-shared-slice-read-wide
 unfolding bytesFor
 shared-slice-read-wide c = omega (arith, c .before .before .before .pre)
-
-wide-requires : tie.Need-wide-requires
-wide-requires c κs = search needs
 
 returns-2 : tie.Need-returns-2
 returns-2 c =
@@ -33,4 +27,4 @@ returns-2 c =
     ∙ rw (c .wide .ensures .0) (sym (part-of-byte rows _ (omega arith) (omega (arith, c .wide .ensures .0))))
 
 pub marked-past-spec : {M : Type 1} → statement M
-marked-past-spec = tie.close (tie.spec returns shl-weight shared-slice-read-wide wide-requires returns-2)
+marked-past-spec = tie.close (tie.spec returns (λ c. search needs) shared-slice-read-wide (λ c κs. search needs) returns-2)

@@ -18,12 +18,6 @@ abbrev μ-loop : tie.MeasureT-loop
 loop-holds : tie.Need-loop-holds Inv-loop μ-loop
 loop-holds c = (omega arith, refl, omega arith)
 
-add-ones : tie.Need-add-ones Inv-loop μ-loop
-add-ones c = omega arith
-
-element-copy-out-ones : tie.Need-element-copy-out-ones Inv-loop μ-loop
-element-copy-out-ones c = omega arith
-
 cast-ones : tie.Need-cast-ones Inv-loop μ-loop
 cast-ones c =
     let start = c .before .before .before in
@@ -33,12 +27,6 @@ add-ones-2 : tie.Need-add-ones-2 Inv-loop μ-loop
 add-ones-2 c =
     let start = c .before .before .before in
     omega (arith, start .pre .0 .each (start .args .at + c .before .before .loop .k))
-
-add-k : tie.Need-add-k Inv-loop μ-loop
-add-k c = omega arith
-
-loop-less : tie.Need-loop-less Inv-loop μ-loop
-loop-less c = omega arith
 
 loop-again : tie.Need-loop-again Inv-loop μ-loop
 loop-again c =
@@ -65,11 +53,11 @@ ones-of-rows-spec =
     Inv-loop
     μ-loop
     loop-holds
-    add-ones
-    element-copy-out-ones
+    (λ c. omega arith)
+    (λ c. omega arith)
     cast-ones
     add-ones-2
-    add-k
-    loop-less
+    (λ c. omega arith)
+    (λ c. omega arith)
     loop-again
     returns)

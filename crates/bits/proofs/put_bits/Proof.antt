@@ -77,9 +77,6 @@ add-matches c = omega (arith, c .ones-of-rows .ensures .1, c .before .before .be
 add-i : tie.Need-add-i Inv-loop μ-loop
 add-i c = omega (arith, c .before .before .before .before .before .pre .0 .few)
 
-loop-less : tie.Need-loop-less Inv-loop μ-loop
-loop-less c = omega arith
-
 loop-again : tie.Need-loop-again Inv-loop μ-loop
 loop-again c =
     let turn = c .before .before .before .loop in
@@ -128,7 +125,7 @@ put-bits-spec =
     ones-of-rows-requires
     add-matches
     add-i
-    loop-less
+    (λ c. omega arith)
     loop-again
     same-length
     returns)

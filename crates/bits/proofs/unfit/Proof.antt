@@ -6,9 +6,6 @@ use Rattle.bits.specs.Marked.{unfitBits}
 use Rattle.bits.proofs.unfit.Statement.{statement}
 use Rattle.bits.proofs.unfit.Tie as tie
 
-bytes-for-requires : tie.Need-bytes-for-requires
-bytes-for-requires c κs = search needs
-
 returns : tie.Need-returns
 unfolding unfitBits
 returns c = sym (simp (rw (c .before .bytes-for .ensures) at (ne-eqb _ _ (c .if1 .taken))))
@@ -23,4 +20,4 @@ returns-2 c =
     c .marked-past .ensures ∙ sym (simp (eq-eqb _ _ (sized .if1 .left ∙ sized .before .bytes-for .ensures)))
 
 pub unfit-spec : {M : Type 1} → statement M
-unfit-spec = tie.close (tie.spec bytes-for-requires returns marked-past-requires returns-2)
+unfit-spec = tie.close (tie.spec (λ c κs. search needs) returns marked-past-requires returns-2)

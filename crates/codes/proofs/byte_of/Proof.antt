@@ -26,9 +26,6 @@ Inv-loop width code slice rest₀ after₀ rest after = rest / 256 ^ after ≡ r
 abbrev μ-loop : tie.MeasureT-loop
 μ-loop width code slice rest₀ after₀ rest after = after
 
-unit-of-requires : tie.Need-unit-of-requires Inv-loop μ-loop
-unit-of-requires c κs = search needs
-
 mul-rest : tie.Need-mul-rest Inv-loop μ-loop
 mul-rest c =
     let (narrow, fits, slice) = c .before .pre in
@@ -36,29 +33,11 @@ mul-rest c =
     let unit-room = le-of-lt (pow-lt (pad-below-eight _)) in
     record { fits = rw (c .unit-of .ensures) (lt-of-le-of-lt (mul-le-mul code-room unit-room) (lit< tt)) }
 
-slices-of-requires : tie.Need-slices-of-requires Inv-loop μ-loop
-slices-of-requires c κs = search needs
-
-sub-after : tie.Need-sub-after Inv-loop μ-loop
-sub-after c = search needs
-
-sub-after-2 : tie.Need-sub-after-2 Inv-loop μ-loop
-sub-after-2 c = search needs
-
 loop-holds : tie.Need-loop-holds Inv-loop μ-loop
 loop-holds c = refl
 
-sub-after-3 : tie.Need-sub-after-3 Inv-loop μ-loop
-sub-after-3 c = search needs
-
-loop-less : tie.Need-loop-less Inv-loop μ-loop
-loop-less c = search needs
-
 loop-again : tie.Need-loop-again Inv-loop μ-loop
 loop-again c = one-byte-less (c .before .loop .rest) (c .before .loop .after) (c .loop-test .taken) ∙ c .before .loop .inv
-
-cast-result : tie.Need-cast-result Inv-loop μ-loop
-cast-result c = search needs
 
 returns : tie.Need-returns Inv-loop μ-loop
 unfolding storedOf
@@ -75,14 +54,14 @@ byte-of-spec =
     (tie.spec
     Inv-loop
     μ-loop
-    unit-of-requires
+    (λ c κs. search needs)
     mul-rest
-    slices-of-requires
-    sub-after
-    sub-after-2
+    (λ c κs. search needs)
+    (λ c. search needs)
+    (λ c. search needs)
     loop-holds
-    sub-after-3
-    loop-less
+    (λ c. search needs)
+    (λ c. search needs)
     loop-again
-    cast-result
+    (λ c. search needs)
     returns)

@@ -36,20 +36,8 @@ loop-holds c = search needs
 mul-number : tie.Need-mul-number Inv-loop μ-loop
 mul-number c = omega (arith, room c)
 
-shared-slice-read-wide : tie.Need-shared-slice-read-wide Inv-loop μ-loop
-shared-slice-read-wide c = search needs
-
-wide-requires : tie.Need-wide-requires Inv-loop μ-loop
-wide-requires c κs = search needs
-
 add-number : tie.Need-add-number Inv-loop μ-loop
 add-number c = omega (arith, room (c .before .before))
-
-add-i : tie.Need-add-i Inv-loop μ-loop
-add-i c = search needs
-
-loop-less : tie.Need-loop-less Inv-loop μ-loop
-loop-less c = search needs
 
 loop-again : tie.Need-loop-again Inv-loop μ-loop
 loop-again c =
@@ -61,9 +49,6 @@ loop-again c =
       rw (add-one, take-suc bytes i 0 inside, big-append-one, inv .1, c .wide .ensures .0),
       rw (add-one, pow-suc) (digits-lt (inv .2) (c .wide .ensures .1)),
     )
-
-unit-of-requires : tie.Need-unit-of-requires Inv-loop μ-loop
-unit-of-requires c κs = search needs
 
 div-result : tie.Need-div-result Inv-loop μ-loop
 div-result c = rw (c .unit-of .ensures) (pow-pos _)
@@ -81,12 +66,12 @@ join-spec =
     μ-loop
     loop-holds
     mul-number
-    shared-slice-read-wide
-    wide-requires
+    (λ c. search needs)
+    (λ c κs. search needs)
     add-number
-    add-i
-    loop-less
+    (λ c. search needs)
+    (λ c. search needs)
     loop-again
-    unit-of-requires
+    (λ c κs. search needs)
     div-result
     returns)

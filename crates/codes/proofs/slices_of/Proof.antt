@@ -5,12 +5,9 @@ use Rattle.codes.specs.Width.{slicesOf}
 use Rattle.codes.proofs.slices_of.Statement.{statement}
 use Rattle.codes.proofs.slices_of.Tie as tie
 
-add-result : tie.Need-add-result
-add-result c = search needs
-
 returns : tie.Need-returns
 unfolding slicesOf
 returns c = refl
 
 pub slices-of-spec : {M : Type 1} → statement M
-slices-of-spec = tie.close (tie.spec add-result returns)
+slices-of-spec = tie.close (tie.spec (λ c. search needs) returns)

@@ -9,12 +9,9 @@ use Rattle.codes.specs.Width.{tooLarge}
 use Rattle.codes.proofs.too_large.Statement.{statement}
 use Rattle.codes.proofs.too_large.Tie as tie
 
-shl-limit : tie.Need-shl-limit
-shl-limit c = search needs
-
 returns : tie.Need-returns
 unfolding tooLarge
 returns c = rw (shl-exact 1 (c .args .width) 64 (lit< tt) (omega arith) ∙ one-mul _)
 
 pub too-large-spec : {M : Type 1} → statement M
-too-large-spec = tie.close (tie.spec shl-limit returns)
+too-large-spec = tie.close (tie.spec (λ c. search needs) returns)

@@ -10,9 +10,6 @@ use Rattle.codes.proofs.Width.{pad-below-eight, width-and-pad}
 use Rattle.codes.proofs.unit_of.Statement.{statement}
 use Rattle.codes.proofs.unit_of.Tie as tie
 
-slices-of-requires : tie.Need-slices-of-requires
-slices-of-requires c κs = search needs
-
 mul-pad : tie.Need-mul-pad
 unfolding slicesOf
 mul-pad c = omega arith
@@ -31,4 +28,4 @@ returns c =
     rw (c .slices-of .ensures) (shl-exact 1 (padOf width) 64 (lit< tt) (omega (arith, pad-below-eight width)) ∙ one-mul _)
 
 pub unit-of-spec : {M : Type 1} → statement M
-unit-of-spec = tie.close (tie.spec slices-of-requires mul-pad sub-pad shl-result returns)
+unit-of-spec = tie.close (tie.spec (λ c κs. search needs) mul-pad sub-pad shl-result returns)

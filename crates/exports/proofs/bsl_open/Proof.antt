@@ -4,14 +4,8 @@ use borrow.Author.Needs.{needs}
 use Rattle.exports.proofs.bsl_open.Statement.{statement}
 use Rattle.exports.proofs.bsl_open.Tie as tie
 
-open-requires : tie.Need-open-requires
-open-requires c κs = search needs
-
-opened-reply-requires : tie.Need-opened-reply-requires
-opened-reply-requires c κs = search needs
-
 returns : tie.Need-returns
 returns c = c .opened-reply .ensures ∙ c .before .«open» .ensures .1
 
 pub bsl-open-spec : {M : Type 1} → statement M
-bsl-open-spec = tie.close (tie.spec open-requires opened-reply-requires returns)
+bsl-open-spec = tie.close (tie.spec (λ c κs. search needs) (λ c κs. search needs) returns)

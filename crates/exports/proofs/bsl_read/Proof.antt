@@ -3,16 +3,10 @@ use borrow.Author.Needs.{needs}
 use Rattle.exports.proofs.bsl_read.Statement.{statement}
 use Rattle.exports.proofs.bsl_read.Tie as tie
 
-read-requires : tie.Need-read-requires
-read-requires c κs = search needs
-
-read-reply-requires : tie.Need-read-reply-requires
-read-reply-requires c κs = search needs
-
 returns : tie.Need-returns
 returns c =
     let read = c .before .before .before .before in
     (read .read .result, (read .read .ensures, c .read-reply .ensures))
 
 pub bsl-read-spec : {M : Type 1} → statement M
-bsl-read-spec = tie.close (tie.spec read-requires read-reply-requires returns)
+bsl-read-spec = tie.close (tie.spec (λ c κs. search needs) (λ c κs. search needs) returns)

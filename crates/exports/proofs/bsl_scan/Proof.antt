@@ -4,12 +4,6 @@ use borrow.Author.Needs.{needs}
 use Rattle.exports.proofs.bsl_scan.Statement.{statement}
 use Rattle.exports.proofs.bsl_scan.Tie as tie
 
-read-requires : tie.Need-read-requires
-read-requires c κs = search needs
-
-scanned-reply-requires : tie.Need-scanned-reply-requires
-scanned-reply-requires c κs = search needs
-
 returns : tie.Need-returns
 returns c =
     let judged = c .before in
@@ -17,15 +11,6 @@ returns c =
       read .read .result,
       (read .read .ensures, text-refused _ (read .read .result) _ (judged .if1 .taken) _ (c .scanned-reply .ensures)),
     )
-
-scan-requires : tie.Need-scan-requires
-scan-requires c κs = search needs
-
-scanned-reply-requires-2 : tie.Need-scanned-reply-requires-2
-scanned-reply-requires-2 c κs = search needs
-
-same-length : tie.Need-same-length
-same-length c = search needs
 
 returns-2 : tie.Need-returns-2
 returns-2 c =
@@ -44,10 +29,10 @@ pub bsl-scan-spec : {M : Type 1} → statement M
 bsl-scan-spec =
     tie.close
     (tie.spec
-    read-requires
-    scanned-reply-requires
+    (λ c κs. search needs)
+    (λ c κs. search needs)
     returns
-    scan-requires
-    scanned-reply-requires-2
-    same-length
+    (λ c κs. search needs)
+    (λ c κs. search needs)
+    (λ c. search needs)
     returns-2)

@@ -5,15 +5,6 @@ use Rattle.pieces.proofs.Writing.{written-then}
 use Rattle.lines.proofs.put_cell.Statement.{statement}
 use Rattle.lines.proofs.put_cell.Tie as tie
 
-put-requires : tie.Need-put-requires
-put-requires c κs = search needs
-
-put-decimal-requires : tie.Need-put-decimal-requires
-put-decimal-requires c κs = search needs
-
-same-length : tie.Need-same-length
-same-length c = search needs
-
 returns : tie.Need-returns
 returns c =
     let step2 = c .before .before in
@@ -22,4 +13,4 @@ returns c =
     (line, omega (arith, step2 .put-decimal .ensures .1, step1 .put .ensures .behind))
 
 pub put-cell-spec : {M : Type 1} → statement M
-put-cell-spec = tie.close (tie.spec put-requires put-decimal-requires same-length returns)
+put-cell-spec = tie.close (tie.spec (λ c κs. search needs) (λ c κs. search needs) (λ c. search needs) returns)

@@ -41,12 +41,6 @@ put-cell-requires c κs =
     let start = c .before .before .before .before .before .before in
     omega (arith, few-columns-as-opened _ (start .args .shape) (start .pre .1))
 
-add-column : tie.Need-add-column Inv-loop μ-loop
-add-column c = omega arith
-
-loop-less : tie.Need-loop-less Inv-loop μ-loop
-loop-less c = omega arith
-
 loop-again : tie.Need-loop-again Inv-loop μ-loop
 loop-again c =
     let cell = c .before .before in
@@ -79,8 +73,8 @@ put-cells-spec =
     loop-holds
     code-at-requires
     put-cell-requires
-    add-column
-    loop-less
+    (λ c. omega arith)
+    (λ c. omega arith)
     loop-again
     same-length
     returns)

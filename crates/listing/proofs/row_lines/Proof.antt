@@ -29,12 +29,6 @@ put-row-requires c κs =
     let start = c .before .before .before .before .before .before in
     (omega (arith, few-rows-as-opened _ (start .args .shape) (start .pre .1)), start .pre .1, omega arith)
 
-add-row : tie.Need-add-row Inv-loop μ-loop
-add-row c = omega arith
-
-loop-less : tie.Need-loop-less Inv-loop μ-loop
-loop-less c = omega arith
-
 loop-again : tie.Need-loop-again Inv-loop μ-loop
 loop-again c =
     let put = c .before .before .put-row .ensures in
@@ -65,8 +59,8 @@ row-lines-spec =
     μ-loop
     loop-holds
     put-row-requires
-    add-row
-    loop-less
+    (λ c. omega arith)
+    (λ c. omega arith)
     loop-again
     same-length
     returns)

@@ -25,25 +25,10 @@ loop-holds : tie.Need-loop-holds Inv-loop μ-loop
 unfolding testLines flatten
 loop-holds c = (omega arith, (omega arith, wrote-nothing _ _ _))
 
-mul-test : tie.Need-mul-test Inv-loop μ-loop
-mul-test c = omega arith
-
-array-copy-out-test : tie.Need-array-copy-out-test Inv-loop μ-loop
-array-copy-out-test c = omega arith
-
 width-at-requires : tie.Need-width-at-requires Inv-loop μ-loop
 width-at-requires c κs =
     let start = c .before .before .before .before .before in
     (start .pre .1, start .pre .3 _ (c .before .loop-test .taken))
-
-mul-test-line : tie.Need-mul-test-line Inv-loop μ-loop
-mul-test-line c = omega arith
-
-array-read-test-line : tie.Need-array-read-test-line Inv-loop μ-loop
-array-read-test-line c = omega arith
-
-slices-of-requires : tie.Need-slices-of-requires Inv-loop μ-loop
-slices-of-requires c κs = search needs
 
 mul-test-line-2 : tie.Need-mul-test-line-2 Inv-loop μ-loop
 mul-test-line-2 c =
@@ -53,15 +38,6 @@ mul-test-line-2 c =
     let slices = c .slices-of .ensures ∙ ap slicesOf (width .width-at .ensures) in
     let product : start .args .shape .rows * c .slices-of .result ≤ mostRows * mostSlices = rw slices bytes in
     omega (arith, product)
-
-test-line-requires : tie.Need-test-line-requires Inv-loop μ-loop
-test-line-requires c κs = omega arith
-
-add-t : tie.Need-add-t Inv-loop μ-loop
-add-t c = omega arith
-
-loop-less : tie.Need-loop-less Inv-loop μ-loop
-loop-less c = omega arith
 
 loop-again : tie.Need-loop-again Inv-loop μ-loop
 loop-again c =
@@ -95,16 +71,16 @@ test-lines-spec =
     Inv-loop
     μ-loop
     loop-holds
-    mul-test
-    array-copy-out-test
+    (λ c. omega arith)
+    (λ c. omega arith)
     width-at-requires
-    mul-test-line
-    array-read-test-line
-    slices-of-requires
+    (λ c. omega arith)
+    (λ c. omega arith)
+    (λ c κs. search needs)
     mul-test-line-2
-    test-line-requires
-    add-t
-    loop-less
+    (λ c κs. omega arith)
+    (λ c. omega arith)
+    (λ c. omega arith)
     loop-again
     same-length
     returns)

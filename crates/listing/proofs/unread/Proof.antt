@@ -6,8 +6,5 @@ use Rattle.listing.proofs.unread.Tie as tie
 returns : tie.Need-returns
 returns c = rw (c .if1 .taken)
 
-returns-2 : tie.Need-returns-2
-returns-2 c = search needs
-
 pub unread-spec : {M : Type 1} → statement M
-unread-spec = tie.close (tie.spec returns returns-2)
+unread-spec = tie.close (tie.spec returns (λ c. search needs))

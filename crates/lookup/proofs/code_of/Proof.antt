@@ -39,17 +39,8 @@ module _ (c : tie.After-slices-of) where
       let a = start c .args in map byte (below n) ≡ gathered (a .file .now) (a .width) (a .offset) (a .rows) (a .row)
   all-gathered n many = ap (λ (n : ℕ). map byte (below n)) (sym many ∙ c .slices-of .ensures)
 
-slices-of-requires : tie.Need-slices-of-requires
-slices-of-requires c κs = search needs
-
 byte-at-requires : tie.Need-byte-at-requires
 byte-at-requires c κs = inside c 0 (some c)
-
-slice-aggregate-join : tie.Need-slice-aggregate-join
-slice-aggregate-join c = search needs
-
-join-requires : tie.Need-join-requires
-join-requires c κs = search needs
 
 returns : tie.Need-returns
 returns c =
@@ -61,12 +52,6 @@ byte-at-requires-2 : tie.Need-byte-at-requires-2
 byte-at-requires-2 c κs =
     let counted = c .before .before in
     inside counted 1 (omega (arith, some counted, c .if1 .left))
-
-slice-aggregate-join-2 : tie.Need-slice-aggregate-join-2
-slice-aggregate-join-2 c = search needs
-
-join-requires-2 : tie.Need-join-requires-2
-join-requires-2 c κs = search needs
 
 returns-2 : tie.Need-returns-2
 returns-2 c =
@@ -80,12 +65,6 @@ byte-at-requires-3 : tie.Need-byte-at-requires-3
 byte-at-requires-3 c κs =
     let counted = c .before .before .before .before in
     inside counted 2 (omega (arith, some counted, c .before .before .if1 .left, c .if2 .left))
-
-slice-aggregate-join-3 : tie.Need-slice-aggregate-join-3
-slice-aggregate-join-3 c = search needs
-
-join-requires-3 : tie.Need-join-requires-3
-join-requires-3 c κs = search needs
 
 returns-3 : tie.Need-returns-3
 returns-3 c =
@@ -110,9 +89,6 @@ byte-at-requires-4 c κs =
     let counted = c .before .before .before .before .before .before in
     inside counted 3 (omega (arith, four c))
 
-slice-aggregate-join-4 : tie.Need-slice-aggregate-join-4
-slice-aggregate-join-4 c = search needs
-
 join-requires-4 : tie.Need-join-requires-4
 join-requires-4 c κs =
     let last = c .before .before in
@@ -134,20 +110,20 @@ pub code-of-spec : {M : Type 1} → statement M
 code-of-spec =
     tie.close
     (tie.spec
-    slices-of-requires
+    (λ c κs. search needs)
     byte-at-requires
-    slice-aggregate-join
-    join-requires
+    (λ c. search needs)
+    (λ c κs. search needs)
     returns
     byte-at-requires-2
-    slice-aggregate-join-2
-    join-requires-2
+    (λ c. search needs)
+    (λ c κs. search needs)
     returns-2
     byte-at-requires-3
-    slice-aggregate-join-3
-    join-requires-3
+    (λ c. search needs)
+    (λ c κs. search needs)
     returns-3
     byte-at-requires-4
-    slice-aggregate-join-4
+    (λ c. search needs)
     join-requires-4
     returns-4)

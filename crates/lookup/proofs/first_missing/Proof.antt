@@ -19,12 +19,6 @@ Inv-loop rows list i₀ i = (i ≤ length list) × ((k : ℕ) → k < i → leb 
 abbrev μ-loop : tie.MeasureT-loop
 μ-loop rows list i₀ i = length list - i
 
-greatest-of-requires : tie.Need-greatest-of-requires Inv-loop μ-loop
-greatest-of-requires c κs = search needs
-
-wide-requires : tie.Need-wide-requires Inv-loop μ-loop
-wide-requires c κs = search needs
-
 returns : tie.Need-returns Inv-loop μ-loop
 returns c =
     let called = c .before in
@@ -37,25 +31,10 @@ returns c =
 loop-holds : tie.Need-loop-holds Inv-loop μ-loop
 loop-holds c = (omega arith, λ k h. absurd (omega arith))
 
-mul-wide : tie.Need-mul-wide Inv-loop μ-loop
-mul-wide c = omega arith
-
-shared-slice-read-wide : tie.Need-shared-slice-read-wide Inv-loop μ-loop
-shared-slice-read-wide c = omega arith
-
-wide-requires-2 : tie.Need-wide-requires-2 Inv-loop μ-loop
-wide-requires-2 c κs = search needs
-
 returns-2 : tie.Need-returns-2 Inv-loop μ-loop
 returns-2 c =
     let turn = c .before .before .before .before .loop in
     sym (first-is _ _ (turn .i) (omega arith) (le-leb _ _ (rw (c .before .wide2 .ensures) at (c .if2 .taken))) (turn .inv .1))
-
-add-i : tie.Need-add-i Inv-loop μ-loop
-add-i c = omega arith
-
-loop-less : tie.Need-loop-less Inv-loop μ-loop
-loop-less c = omega arith
 
 loop-again : tie.Need-loop-again Inv-loop μ-loop
 loop-again c =
@@ -74,15 +53,15 @@ first-missing-spec =
     (tie.spec
     Inv-loop
     μ-loop
-    greatest-of-requires
-    wide-requires
+    (λ c κs. search needs)
+    (λ c κs. search needs)
     returns
     loop-holds
-    mul-wide
-    shared-slice-read-wide
-    wide-requires-2
+    (λ c. omega arith)
+    (λ c. omega arith)
+    (λ c κs. search needs)
     returns-2
-    add-i
-    loop-less
+    (λ c. omega arith)
+    (λ c. omega arith)
     loop-again
     returns-3)

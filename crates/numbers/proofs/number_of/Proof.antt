@@ -44,25 +44,13 @@ abbrev μ-loop : tie.MeasureT-loop
 loop-holds : tie.Need-loop-holds Inv-loop μ-loop
 loop-holds c = none-yet (c .before .args .bytes .now)
 
-sub-left : tie.Need-sub-left Inv-loop μ-loop
-sub-left c = omega arith
-
 mul-number : tie.Need-mul-number Inv-loop μ-loop
 mul-number c = omega (arith, room _ _ _ (c .before .loop .inv) (c .before .before .before .pre) (omega arith))
-
-shared-slice-read-wide : tie.Need-shared-slice-read-wide Inv-loop μ-loop
-shared-slice-read-wide c = omega arith
-
-wide-requires : tie.Need-wide-requires Inv-loop μ-loop
-wide-requires c κs = search needs
 
 add-number : tie.Need-add-number Inv-loop μ-loop
 add-number c =
     let turn = c .before .before .before in
     omega (arith, room _ _ _ (turn .loop .inv) (turn .before .before .pre) (omega arith))
-
-loop-less : tie.Need-loop-less Inv-loop μ-loop
-loop-less c = omega arith
 
 loop-again : tie.Need-loop-again Inv-loop μ-loop
 loop-again c =
@@ -84,11 +72,11 @@ number-of-spec =
     Inv-loop
     μ-loop
     loop-holds
-    sub-left
+    (λ c. omega arith)
     mul-number
-    shared-slice-read-wide
-    wide-requires
+    (λ c. omega arith)
+    (λ c κs. search needs)
     add-number
-    loop-less
+    (λ c. omega arith)
     loop-again
     returns)

@@ -5,29 +5,24 @@ use Rattle.pieces.proofs.Writing.{wrote-byte, put-before, put-behind, p
 use Rattle.pieces.proofs.put.Statement.{statement}
 use Rattle.pieces.proofs.put.Tie as tie
 
-add-result : tie.Need-add-result
-add-result c = search needs
-
 returns : tie.Need-returns
 returns c = wrote-byte _ _ _ _ (sym (put-before _ _ _ _ (c .if1 .taken))) refl
 
-add-result-2 : tie.Need-add-result-2
-add-result-2 c = search needs
-
 returns-2 : tie.Need-returns-2
 returns-2 c = wrote-byte _ _ _ _ (sym (put-behind _ _ _ _ (c .before .if1 .left) (c .if2 .taken))) refl
-
-slice-write-out : tie.Need-slice-write-out
-slice-write-out c = search needs
-
-add-result-3 : tie.Need-add-result-3
-add-result-3 c = search needs
-
-same-length : tie.Need-same-length
-same-length c = search needs
 
 returns-3 : tie.Need-returns-3
 returns-3 c = wrote-byte _ _ _ _ (sym (put-within _ _ _ _ (c .before .if1 .left) (c .if2 .left))) refl
 
 pub put-spec : {M : Type 1} → statement M
-put-spec = tie.close (tie.spec add-result returns add-result-2 returns-2 slice-write-out add-result-3 same-length returns-3)
+put-spec =
+    tie.close
+    (tie.spec
+    (λ c. search needs)
+    returns
+    (λ c. search needs)
+    returns-2
+    (λ c. search needs)
+    (λ c. search needs)
+    (λ c. search needs)
+    returns-3)

@@ -6,21 +6,6 @@ use Rattle.positions.specs.Places.{HoldsPlaces}
 use Rattle.positions.proofs.position.Statement.{statement}
 use Rattle.positions.proofs.position.Tie as tie
 
-wide-requires : tie.Need-wide-requires
-wide-requires c κs = search needs
-
-mul-row-number : tie.Need-mul-row-number
-mul-row-number c = search needs
-
-add-row-number : tie.Need-add-row-number
-add-row-number c = search needs
-
-element-copy-out-row-number : tie.Need-element-copy-out-row-number
-element-copy-out-row-number c = search needs
-
-row-number-requires : tie.Need-row-number-requires
-row-number-requires c κs = search needs
-
 returns : tie.Need-returns
 unfolding HoldsPlaces
 returns c =
@@ -34,9 +19,9 @@ pub position-spec : {M : Type 1} → statement M
 position-spec =
     tie.close
     (tie.spec
-    wide-requires
-    mul-row-number
-    add-row-number
-    element-copy-out-row-number
-    row-number-requires
+    (λ c κs. search needs)
+    (λ c. search needs)
+    (λ c. search needs)
+    (λ c. search needs)
+    (λ c κs. search needs)
     returns)

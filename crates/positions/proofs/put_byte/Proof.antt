@@ -6,26 +6,11 @@ use Rattle.positions.proofs.Ahead.{put-ahead}
 use Rattle.positions.proofs.put_byte.Statement.{statement}
 use Rattle.positions.proofs.put_byte.Tie as tie
 
-add-if1 : tie.Need-add-if1
-add-if1 c = search needs
-
-write-places-requires : tie.Need-write-places-requires
-write-places-requires c κs = search needs
-
-same-length : tie.Need-same-length
-same-length c = search needs
-
 returns : tie.Need-returns
 returns c =
     let wrote = c .before .before in
     let start = wrote .before .before .before .before in
     put-ahead _ _ _ _ _ _ (few-places (start .args .byte)) (omega arith) (omega arith) (wrote .write-places .ensures)
-
-write-places-requires-2 : tie.Need-write-places-requires-2
-write-places-requires-2 c κs = search needs
-
-same-length-2 : tie.Need-same-length-2
-same-length-2 c = search needs
 
 returns-2 : tie.Need-returns-2
 returns-2 c =
@@ -37,10 +22,10 @@ pub put-byte-spec : {M : Type 1} → statement M
 put-byte-spec =
     tie.close
     (tie.spec
-    add-if1
-    write-places-requires
-    same-length
+    (λ c. search needs)
+    (λ c κs. search needs)
+    (λ c. search needs)
     returns
-    write-places-requires-2
-    same-length-2
+    (λ c κs. search needs)
+    (λ c. search needs)
     returns-2)

@@ -34,12 +34,6 @@ cast-rest c = omega (arith, byte-of c .fits)
 shr-rest : tie.Need-shr-rest Inv-loop μ-loop
 shr-rest c = omega (arith, byte-of c .fits)
 
-cast-byte : tie.Need-cast-byte Inv-loop μ-loop
-cast-byte c = omega arith
-
-ones-of-requires : tie.Need-ones-of-requires Inv-loop μ-loop
-ones-of-requires c κs = search needs
-
 add-row : tie.Need-add-row Inv-loop μ-loop
 add-row c = omega (arith, byte-of (c .before) .fits)
 
@@ -100,8 +94,8 @@ put-word-spec =
     mul-zeros
     cast-rest
     shr-rest
-    cast-byte
-    ones-of-requires
+    (λ c. omega arith)
+    (λ c κs. search needs)
     add-row
     add-row-2
     put-byte-requires

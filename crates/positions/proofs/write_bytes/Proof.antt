@@ -17,18 +17,6 @@ abbrev μ-loop : tie.MeasureT-loop
 loop-holds : tie.Need-loop-holds Inv-loop μ-loop
 loop-holds c = (omega arith, none-written _ _ _)
 
-shared-slice-read-byte : tie.Need-shared-slice-read-byte Inv-loop μ-loop
-shared-slice-read-byte c = omega arith
-
-ones-of-requires : tie.Need-ones-of-requires Inv-loop μ-loop
-ones-of-requires c κs = search needs
-
-mul-put-byte : tie.Need-mul-put-byte Inv-loop μ-loop
-mul-put-byte c = omega arith
-
-cast-put-byte : tie.Need-cast-put-byte Inv-loop μ-loop
-cast-put-byte c = omega arith
-
 put-byte-requires : tie.Need-put-byte-requires Inv-loop μ-loop
 put-byte-requires c κs =
     let start = c .before .before .before .before .before .before .before in
@@ -51,12 +39,6 @@ add-at c =
     let fits = next-fits (start .args .bits .now) (start .args .all) (turn .i) (omega arith) (omega (arith, start .pre .1 .0)) in
     omega (arith, fits, back .ones-of .ensures, turn .inv .1 .counted)
 
-add-i : tie.Need-add-i Inv-loop μ-loop
-add-i c = omega arith
-
-loop-less : tie.Need-loop-less Inv-loop μ-loop
-loop-less c = omega arith
-
 loop-again : tie.Need-loop-again Inv-loop μ-loop
 loop-again c =
     let back = c .before .before .before .before in
@@ -76,14 +58,14 @@ write-bytes-spec =
     Inv-loop
     μ-loop
     loop-holds
-    shared-slice-read-byte
-    ones-of-requires
-    mul-put-byte
-    cast-put-byte
+    (λ c. omega arith)
+    (λ c κs. search needs)
+    (λ c. omega arith)
+    (λ c. omega arith)
     put-byte-requires
     add-at
-    add-i
-    loop-less
+    (λ c. omega arith)
+    (λ c. omega arith)
     loop-again
     same-length
     returns)

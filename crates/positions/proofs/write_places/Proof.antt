@@ -27,20 +27,8 @@ position-requires c κs =
 add-out : tie.Need-add-out Inv-loop μ-loop
 add-out c = omega (arith, c .position .ensures .1)
 
-add-out-2 : tie.Need-add-out-2 Inv-loop μ-loop
-add-out-2 c = omega arith
-
-mul-out : tie.Need-mul-out Inv-loop μ-loop
-mul-out c = omega arith
-
 slice-write-out : tie.Need-slice-write-out Inv-loop μ-loop
 slice-write-out c = omega (arith, c .before .before .loop .inv .1 .same-length)
-
-add-k : tie.Need-add-k Inv-loop μ-loop
-add-k c = omega arith
-
-loop-less : tie.Need-loop-less Inv-loop μ-loop
-loop-less c = omega arith
 
 loop-again : tie.Need-loop-again Inv-loop μ-loop
 loop-again c =
@@ -70,11 +58,11 @@ write-places-spec =
     loop-holds
     position-requires
     add-out
-    add-out-2
-    mul-out
+    (λ c. omega arith)
+    (λ c. omega arith)
     slice-write-out
-    add-k
-    loop-less
+    (λ c. omega arith)
+    (λ c. omega arith)
     loop-again
     same-length
     returns)

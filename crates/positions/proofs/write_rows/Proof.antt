@@ -12,11 +12,5 @@ write-by-requires c κs =
     let start = c .before .before .before .before in
     ((holds-places _ refl tt, start .pre .0), start .pre .1)
 
-same-length : tie.Need-same-length
-same-length c = search needs
-
-returns : tie.Need-returns
-returns c = search needs
-
 pub write-rows-spec : {M : Type 1} → statement M
-write-rows-spec = tie.close (tie.spec write-by-requires same-length returns)
+write-rows-spec = tie.close (tie.spec write-by-requires (λ c. search needs) (λ c. search needs))

@@ -17,17 +17,8 @@ abbrev μ-loop : tie.MeasureT-loop
 loop-holds : tie.Need-loop-holds Inv-loop μ-loop
 loop-holds c = (omega arith, none-written _ _ _)
 
-add-loop : tie.Need-add-loop Inv-loop μ-loop
-add-loop c = omega arith
-
 word-at-requires : tie.Need-word-at-requires Inv-loop μ-loop
 word-at-requires c κs = (omega arith, omega arith)
-
-mul-put-word : tie.Need-mul-put-word Inv-loop μ-loop
-mul-put-word c = omega arith
-
-cast-put-word : tie.Need-cast-put-word Inv-loop μ-loop
-cast-put-word c = omega arith
 
 put-word-requires : tie.Need-put-word-requires Inv-loop μ-loop
 put-word-requires c κs =
@@ -38,29 +29,14 @@ put-word-requires c κs =
       (omega (arith, room, turn .inv .1 .counted), omega (arith, start .pre .1 .1, turn .inv .1 .same-length)),
     )
 
-add-i : tie.Need-add-i Inv-loop μ-loop
-add-i c = omega arith
-
-loop-less : tie.Need-loop-less Inv-loop μ-loop
-loop-less c = omega arith
-
 loop-again : tie.Need-loop-again Inv-loop μ-loop
 loop-again c =
     let put = c .before .before in
     let turn = put .before .before .before .before .loop in
     (omega arith, word-written (turn .inv .1) (put .before .before .word-at .ensures) (put .put-word .ensures))
 
-sub-word-at : tie.Need-sub-word-at Inv-loop μ-loop
-sub-word-at c = omega arith
-
 word-at-requires-2 : tie.Need-word-at-requires-2 Inv-loop μ-loop
 word-at-requires-2 c κs = (omega arith, omega arith)
-
-mul-put-word-2 : tie.Need-mul-put-word-2 Inv-loop μ-loop
-mul-put-word-2 c = omega arith
-
-cast-put-word-2 : tie.Need-cast-put-word-2 Inv-loop μ-loop
-cast-put-word-2 c = omega arith
 
 put-word-requires-2 : tie.Need-put-word-requires-2 Inv-loop μ-loop
 put-word-requires-2 c κs =
@@ -92,18 +68,18 @@ write-words-spec =
     Inv-loop
     μ-loop
     loop-holds
-    add-loop
+    (λ c. omega arith)
     word-at-requires
-    mul-put-word
-    cast-put-word
+    (λ c. omega arith)
+    (λ c. omega arith)
     put-word-requires
-    add-i
-    loop-less
+    (λ c. omega arith)
+    (λ c. omega arith)
     loop-again
-    sub-word-at
+    (λ c. omega arith)
     word-at-requires-2
-    mul-put-word-2
-    cast-put-word-2
+    (λ c. omega arith)
+    (λ c. omega arith)
     put-word-requires-2
     same-length
     returns)

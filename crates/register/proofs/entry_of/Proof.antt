@@ -25,23 +25,11 @@ room file shape opened =
 sub-from : tie.Need-sub-from
 sub-from c = let known = room _ _ (c .pre .0) in omega arith
 
-sub-from-2 : tie.Need-sub-from-2
-sub-from-2 c = search needs
-
 mul-from : tie.Need-mul-from
 mul-from c = let known = room _ _ (c .pre .0) in omega arith
 
 sub-from-3 : tie.Need-sub-from-3
 sub-from-3 c = let known = room _ _ (c .pre .0) in omega arith
-
-add-to : tie.Need-add-to
-add-to c = search needs
-
-sub-result : tie.Need-sub-result
-sub-result c = search needs
-
-part-result-start : tie.Need-part-result-start
-part-result-start c = search needs
 
 part-result-end : tie.Need-part-result-end
 part-result-end c = let known = room _ _ (c .pre .0) in omega arith
@@ -57,11 +45,11 @@ entry-of-spec =
     tie.close
     (tie.spec
     sub-from
-    sub-from-2
+    (λ c. search needs)
     mul-from
     sub-from-3
-    add-to
-    sub-result
-    part-result-start
+    (λ c. search needs)
+    (λ c. search needs)
+    (λ c. search needs)
     part-result-end
     returns)

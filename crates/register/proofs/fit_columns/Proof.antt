@@ -86,24 +86,6 @@ passed c =
 loop-holds : tie.Need-loop-holds Inv-loop μ-loop
 loop-holds c = none-passed (c .before .args .file .now) (c .before .args .columns)
 
-mul-from : tie.Need-mul-from Inv-loop μ-loop
-mul-from c = omega arith
-
-add-from : tie.Need-add-from Inv-loop μ-loop
-add-from c = omega arith
-
-add-to : tie.Need-add-to Inv-loop μ-loop
-add-to c = omega arith
-
-sub-entry : tie.Need-sub-entry Inv-loop μ-loop
-sub-entry c = omega arith
-
-part-entry-start : tie.Need-part-entry-start Inv-loop μ-loop
-part-entry-start c = omega arith
-
-part-entry-end : tie.Need-part-entry-end Inv-loop μ-loop
-part-entry-end c = omega arith
-
 mul-unfit-entry : tie.Need-mul-unfit-entry Inv-loop μ-loop
 mul-unfit-entry c =
     let turn = c .before .before .loop in
@@ -121,17 +103,8 @@ returns c =
 shared-slice-read-slices-of : tie.Need-shared-slice-read-slices-of Inv-loop μ-loop
 shared-slice-read-slices-of c = omega (arith, here (c .before .before .before .before) .1)
 
-slices-of-requires : tie.Need-slices-of-requires Inv-loop μ-loop
-slices-of-requires c κs = search needs
-
 add-slices : tie.Need-add-slices Inv-loop μ-loop
 add-slices c = omega (arith, passed c .few)
-
-add-column : tie.Need-add-column Inv-loop μ-loop
-add-column c = omega arith
-
-loop-less : tie.Need-loop-less Inv-loop μ-loop
-loop-less c = omega arith
 
 loop-again : tie.Need-loop-again Inv-loop μ-loop
 loop-again c = passed c
@@ -149,19 +122,19 @@ fit-columns-spec =
     Inv-loop
     μ-loop
     loop-holds
-    mul-from
-    add-from
-    add-to
-    sub-entry
-    part-entry-start
-    part-entry-end
+    (λ c. omega arith)
+    (λ c. omega arith)
+    (λ c. omega arith)
+    (λ c. omega arith)
+    (λ c. omega arith)
+    (λ c. omega arith)
     mul-unfit-entry
     unfit-entry-requires
     returns
     shared-slice-read-slices-of
-    slices-of-requires
+    (λ c κs. search needs)
     add-slices
-    add-column
-    loop-less
+    (λ c. omega arith)
+    (λ c. omega arith)
     loop-again
     returns-2)

@@ -5,15 +5,9 @@ use Rattle.register.specs.File.{widthOf, widthIn}
 use Rattle.register.proofs.width_at.Statement.{statement}
 use Rattle.register.proofs.width_at.Tie as tie
 
-entry-of-requires : tie.Need-entry-of-requires
-entry-of-requires c κs = search needs
-
-shared-slice-read-result : tie.Need-shared-slice-read-result
-shared-slice-read-result c = search needs
-
 returns : tie.Need-returns
 unfolding widthIn
 returns c = ap widthOf (c .before .entry-of .ensures .0)
 
 pub width-at-spec : {M : Type 1} → statement M
-width-at-spec = tie.close (tie.spec entry-of-requires shared-slice-read-result returns)
+width-at-spec = tie.close (tie.spec (λ c κs. search needs) (λ c. search needs) returns)

@@ -21,78 +21,9 @@ Inv-loop size count tests reply₀ t₀ reply t =
 abbrev μ-loop : tie.MeasureT-loop
 μ-loop size count tests reply₀ t₀ reply t = mostTests - t
 
-array-write-reply : tie.Need-array-write-reply Inv-loop μ-loop
-array-write-reply c = search needs
-
-array-write-reply-2 : tie.Need-array-write-reply-2 Inv-loop μ-loop
-array-write-reply-2 c = search needs
-
-array-write-reply-3 : tie.Need-array-write-reply-3 Inv-loop μ-loop
-array-write-reply-3 c = search needs
-
-array-write-reply-4 : tie.Need-array-write-reply-4 Inv-loop μ-loop
-array-write-reply-4 c = search needs
-
-array-write-reply-5 : tie.Need-array-write-reply-5 Inv-loop μ-loop
-array-write-reply-5 c = search needs
-
 loop-holds : tie.Need-loop-holds Inv-loop μ-loop
 unfolding flatten
 loop-holds c = (omega arith, (refl, filled-nothing _ _))
-
-mul-test : tie.Need-mul-test Inv-loop μ-loop
-mul-test c = omega arith
-
-array-copy-out-test : tie.Need-array-copy-out-test Inv-loop μ-loop
-array-copy-out-test c = omega arith
-
-mul-reply : tie.Need-mul-reply Inv-loop μ-loop
-mul-reply c = omega arith
-
-add-reply : tie.Need-add-reply Inv-loop μ-loop
-add-reply c = omega arith
-
-mul-reply-2 : tie.Need-mul-reply-2 Inv-loop μ-loop
-mul-reply-2 c = omega arith
-
-array-write-reply-6 : tie.Need-array-write-reply-6 Inv-loop μ-loop
-array-write-reply-6 c = omega arith
-
-kind-of-requires : tie.Need-kind-of-requires Inv-loop μ-loop
-kind-of-requires c κs = search needs
-
-mul-reply-3 : tie.Need-mul-reply-3 Inv-loop μ-loop
-mul-reply-3 c = omega arith
-
-add-reply-2 : tie.Need-add-reply-2 Inv-loop μ-loop
-add-reply-2 c = omega arith
-
-mul-reply-4 : tie.Need-mul-reply-4 Inv-loop μ-loop
-mul-reply-4 c = omega arith
-
-array-write-reply-7 : tie.Need-array-write-reply-7 Inv-loop μ-loop
-array-write-reply-7 c = omega arith
-
-literal-of-requires : tie.Need-literal-of-requires Inv-loop μ-loop
-literal-of-requires c κs = search needs
-
-mul-reply-5 : tie.Need-mul-reply-5 Inv-loop μ-loop
-mul-reply-5 c = omega arith
-
-add-reply-3 : tie.Need-add-reply-3 Inv-loop μ-loop
-add-reply-3 c = omega arith
-
-mul-reply-6 : tie.Need-mul-reply-6 Inv-loop μ-loop
-mul-reply-6 c = omega arith
-
-array-write-reply-8 : tie.Need-array-write-reply-8 Inv-loop μ-loop
-array-write-reply-8 c = omega arith
-
-add-t : tie.Need-add-t Inv-loop μ-loop
-add-t c = omega arith
-
-loop-less : tie.Need-loop-less Inv-loop μ-loop
-loop-less c = omega arith
 
 loop-again : tie.Need-loop-again Inv-loop μ-loop
 loop-again c =
@@ -121,29 +52,29 @@ read-reply-spec =
     (tie.spec
     Inv-loop
     μ-loop
-    array-write-reply
-    array-write-reply-2
-    array-write-reply-3
-    array-write-reply-4
-    array-write-reply-5
+    (λ c. search needs)
+    (λ c. search needs)
+    (λ c. search needs)
+    (λ c. search needs)
+    (λ c. search needs)
     loop-holds
-    mul-test
-    array-copy-out-test
-    mul-reply
-    add-reply
-    mul-reply-2
-    array-write-reply-6
-    kind-of-requires
-    mul-reply-3
-    add-reply-2
-    mul-reply-4
-    array-write-reply-7
-    literal-of-requires
-    mul-reply-5
-    add-reply-3
-    mul-reply-6
-    array-write-reply-8
-    add-t
-    loop-less
+    (λ c. omega arith)
+    (λ c. omega arith)
+    (λ c. omega arith)
+    (λ c. omega arith)
+    (λ c. omega arith)
+    (λ c. omega arith)
+    (λ c κs. search needs)
+    (λ c. omega arith)
+    (λ c. omega arith)
+    (λ c. omega arith)
+    (λ c. omega arith)
+    (λ c κs. search needs)
+    (λ c. omega arith)
+    (λ c. omega arith)
+    (λ c. omega arith)
+    (λ c. omega arith)
+    (λ c. omega arith)
+    (λ c. omega arith)
     loop-again
     returns)

@@ -20,44 +20,8 @@ Inv-loop counts reply₀ t₀ reply t =
 abbrev μ-loop : tie.MeasureT-loop
 μ-loop counts reply₀ t₀ reply t = mostTests - t
 
-array-write-reply : tie.Need-array-write-reply Inv-loop μ-loop
-array-write-reply c = search needs
-
-array-write-reply-2 : tie.Need-array-write-reply-2 Inv-loop μ-loop
-array-write-reply-2 c = search needs
-
-array-write-reply-3 : tie.Need-array-write-reply-3 Inv-loop μ-loop
-array-write-reply-3 c = search needs
-
-array-write-reply-4 : tie.Need-array-write-reply-4 Inv-loop μ-loop
-array-write-reply-4 c = search needs
-
-array-write-reply-5 : tie.Need-array-write-reply-5 Inv-loop μ-loop
-array-write-reply-5 c = search needs
-
 loop-holds : tie.Need-loop-holds Inv-loop μ-loop
 loop-holds c = (omega arith, (refl, filled-nothing _ _))
-
-mul-reply : tie.Need-mul-reply Inv-loop μ-loop
-mul-reply c = omega arith
-
-array-read-reply : tie.Need-array-read-reply Inv-loop μ-loop
-array-read-reply c = omega arith
-
-add-reply : tie.Need-add-reply Inv-loop μ-loop
-add-reply c = omega arith
-
-mul-reply-2 : tie.Need-mul-reply-2 Inv-loop μ-loop
-mul-reply-2 c = omega arith
-
-array-write-reply-6 : tie.Need-array-write-reply-6 Inv-loop μ-loop
-array-write-reply-6 c = omega arith
-
-add-t : tie.Need-add-t Inv-loop μ-loop
-add-t c = omega arith
-
-loop-less : tie.Need-loop-less Inv-loop μ-loop
-loop-less c = omega arith
 
 loop-again : tie.Need-loop-again Inv-loop μ-loop
 loop-again c =
@@ -86,18 +50,18 @@ scanned-reply-spec =
     (tie.spec
     Inv-loop
     μ-loop
-    array-write-reply
-    array-write-reply-2
-    array-write-reply-3
-    array-write-reply-4
-    array-write-reply-5
+    (λ c. search needs)
+    (λ c. search needs)
+    (λ c. search needs)
+    (λ c. search needs)
+    (λ c. search needs)
     loop-holds
-    mul-reply
-    array-read-reply
-    add-reply
-    mul-reply-2
-    array-write-reply-6
-    add-t
-    loop-less
+    (λ c. omega arith)
+    (λ c. omega arith)
+    (λ c. omega arith)
+    (λ c. omega arith)
+    (λ c. omega arith)
+    (λ c. omega arith)
+    (λ c. omega arith)
     loop-again
     returns)

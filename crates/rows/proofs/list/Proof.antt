@@ -55,9 +55,6 @@ returns c =
     let start = c .before .before .before .before in
     refused-by _ _ _ _ (stops (past-0 start) (lt-ltb _ _ (c .before .if1 .taken))) (c .refused .ensures)
 
-unfit-requires : tie.Need-unfit-requires
-unfit-requires c κs = omega arith
-
 returns-2 : tie.Need-returns-2
 unfolding listLines
 returns-2 c =
@@ -97,7 +94,7 @@ list-spec =
     (tie.spec
     (λ c κs. search needs)
     returns
-    unfit-requires
+    (λ c κs. omega arith)
     (λ c κs. search needs)
     returns-2
     count-rows-requires

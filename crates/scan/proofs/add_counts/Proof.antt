@@ -19,35 +19,11 @@ abbrev μ-loop : tie.MeasureT-loop
 loop-holds : tie.Need-loop-holds Inv-loop μ-loop
 loop-holds c = (omega arith, swept-nothing _ 0 _)
 
-mul-counts : tie.Need-mul-counts Inv-loop μ-loop
-mul-counts c = omega arith
-
-element-copy-out-counts : tie.Need-element-copy-out-counts Inv-loop μ-loop
-element-copy-out-counts c = omega arith
-
-mul-counts-2 : tie.Need-mul-counts-2 Inv-loop μ-loop
-mul-counts-2 c = omega arith
-
-element-copy-out-counts-2 : tie.Need-element-copy-out-counts-2 Inv-loop μ-loop
-element-copy-out-counts-2 c = omega arith
-
 add-counts : tie.Need-add-counts Inv-loop μ-loop
 add-counts c =
     let turn = c .before .before .before .loop in
     let small = c .before .before .before .before .pre .1 (turn .t) (omega arith) in
     omega (arith, turn .inv .1 .behind (turn .t) (omega arith))
-
-mul-counts-3 : tie.Need-mul-counts-3 Inv-loop μ-loop
-mul-counts-3 c = omega arith
-
-element-write-counts : tie.Need-element-write-counts Inv-loop μ-loop
-element-write-counts c = omega arith
-
-add-t : tie.Need-add-t Inv-loop μ-loop
-add-t c = omega arith
-
-loop-less : tie.Need-loop-less Inv-loop μ-loop
-loop-less c = omega arith
 
 loop-again : tie.Need-loop-again Inv-loop μ-loop
 loop-again c =
@@ -68,14 +44,14 @@ add-counts-spec =
     Inv-loop
     μ-loop
     loop-holds
-    mul-counts
-    element-copy-out-counts
-    mul-counts-2
-    element-copy-out-counts-2
+    (λ c. omega arith)
+    (λ c. omega arith)
+    (λ c. omega arith)
+    (λ c. omega arith)
     add-counts
-    mul-counts-3
-    element-write-counts
-    add-t
-    loop-less
+    (λ c. omega arith)
+    (λ c. omega arith)
+    (λ c. omega arith)
+    (λ c. omega arith)
     loop-again
     returns)

@@ -58,17 +58,8 @@ narrow-columns c t h =
     let judged = startOf c .pre .0 in
     width-as-opened _ _ (judged .opened) _ (judged .columns t h) .1
 
-plan-of-requires : tie.Need-plan-of-requires Inv-loop μ-loop
-plan-of-requires c κs = search needs
-
 loop-holds : tie.Need-loop-holds Inv-loop μ-loop
 loop-holds c = nothing-yet _ _ _ _ _ _
-
-sub-least : tie.Need-sub-least Inv-loop μ-loop
-sub-least c = omega arith
-
-least-requires : tie.Need-least-requires Inv-loop μ-loop
-least-requires c κs = search needs
 
 scan-segment-requires : tie.Need-scan-segment-requires Inv-loop μ-loop
 scan-segment-requires c κs =
@@ -171,10 +162,10 @@ scan-rows-spec =
     (tie.spec
     Inv-loop
     μ-loop
-    plan-of-requires
+    (λ c κs. search needs)
     loop-holds
-    sub-least
-    least-requires
+    (λ c. omega arith)
+    (λ c κs. search needs)
     scan-segment-requires
     add-counts-requires
     put-bits-requires

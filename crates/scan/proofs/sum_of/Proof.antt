@@ -19,12 +19,6 @@ abbrev μ-loop : tie.MeasureT-loop
 loop-holds : tie.Need-loop-holds Inv-loop μ-loop
 loop-holds c = (omega arith, refl)
 
-mul-total : tie.Need-mul-total Inv-loop μ-loop
-mul-total c = omega arith
-
-element-copy-out-total : tie.Need-element-copy-out-total Inv-loop μ-loop
-element-copy-out-total c = omega arith
-
 add-total : tie.Need-add-total Inv-loop μ-loop
 add-total c =
     let turn = c .before .before .loop in
@@ -32,12 +26,6 @@ add-total c =
     let so-far =
     sum-at-most (λ k. getD (start .args .counts .now) k 0) (mostRows * mostSlices) (turn .t) (λ k h. start .pre k (omega arith)) in
     omega (arith, start .pre (turn .t) (omega arith))
-
-add-t : tie.Need-add-t Inv-loop μ-loop
-add-t c = omega arith
-
-loop-less : tie.Need-loop-less Inv-loop μ-loop
-loop-less c = omega arith
 
 loop-again : tie.Need-loop-again Inv-loop μ-loop
 loop-again c =
@@ -59,10 +47,10 @@ sum-of-spec =
     Inv-loop
     μ-loop
     loop-holds
-    mul-total
-    element-copy-out-total
+    (λ c. omega arith)
+    (λ c. omega arith)
     add-total
-    add-t
-    loop-less
+    (λ c. omega arith)
+    (λ c. omega arith)
     loop-again
     returns)

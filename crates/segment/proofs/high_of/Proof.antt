@@ -29,20 +29,8 @@ is-a-byte c =
     let start = c .before .before .before .before .before in
     high-is-a-byte (start .args .width) (start .args .literal) (start .args .slice) (start .pre .0 .1) (start .pre .1)
 
-byte-of-requires : tie.Need-byte-of-requires
-byte-of-requires c κs = search needs
-
 add-if1 : tie.Need-add-if1
 add-if1 c = omega (arith, few-slices-of (c .before .args .width) (c .before .pre .0 .0))
-
-slices-of-requires : tie.Need-slices-of-requires
-slices-of-requires c κs = search needs
-
-wide-requires : tie.Need-wide-requires
-wide-requires c κs = search needs
-
-unit-of-requires : tie.Need-unit-of-requires
-unit-of-requires c κs = search needs
 
 sub-result : tie.Need-sub-result
 sub-result c = omega (arith, c .unit-of .ensures, pow-pos (padOf (c .before .before .before .before .before .args .width)))
@@ -67,11 +55,11 @@ pub high-of-spec : {M : Type 1} → statement M
 high-of-spec =
     tie.close
     (tie.spec
-    byte-of-requires
+    (λ c κs. search needs)
     add-if1
-    slices-of-requires
-    wide-requires
-    unit-of-requires
+    (λ c κs. search needs)
+    (λ c κs. search needs)
+    (λ c κs. search needs)
     sub-result
     add-result
     cast-result

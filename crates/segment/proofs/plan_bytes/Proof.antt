@@ -30,9 +30,6 @@ start c = c .before .before .before
 within : (c : tie.In-loop Inv-loop μ-loop) → start c .args .base + c .before .loop .j < planPlaces
 within c = omega (arith, few-slices-of (start c .args .width) (start c .pre .0 .0), c .before .loop .inv .1)
 
-slices-of-requires : tie.Need-slices-of-requires Inv-loop μ-loop
-slices-of-requires c κs = search needs
-
 loop-holds : tie.Need-loop-holds Inv-loop μ-loop
 loop-holds c = (omega arith, c .slices-of .ensures, swept-nothing _ _ _, swept-nothing _ _ _)
 
@@ -53,12 +50,6 @@ add-highs c = omega (arith, within (c .before .before))
 
 element-write-highs : tie.Need-element-write-highs Inv-loop μ-loop
 element-write-highs c = within (c .before .before)
-
-add-j : tie.Need-add-j Inv-loop μ-loop
-add-j c = omega arith
-
-loop-less : tie.Need-loop-less Inv-loop μ-loop
-loop-less c = omega arith
 
 loop-again : tie.Need-loop-again Inv-loop μ-loop
 loop-again c =
@@ -83,7 +74,7 @@ plan-bytes-spec =
     (tie.spec
     Inv-loop
     μ-loop
-    slices-of-requires
+    (λ c κs. search needs)
     loop-holds
     byte-of-requires
     add-lows
@@ -91,7 +82,7 @@ plan-bytes-spec =
     high-of-requires
     add-highs
     element-write-highs
-    add-j
-    loop-less
+    (λ c. omega arith)
+    (λ c. omega arith)
     loop-again
     returns)

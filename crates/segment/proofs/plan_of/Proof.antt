@@ -32,9 +32,6 @@ literal-here c =
 loop-holds : tie.Need-loop-holds Inv-loop μ-loop
 loop-holds c = (omega arith, planned-nothing _ _ _ _ _ _, (refl, refl, refl, refl))
 
-mul-test : tie.Need-mul-test Inv-loop μ-loop
-mul-test c = omega arith
-
 array-copy-out-test : tie.Need-array-copy-out-test Inv-loop μ-loop
 array-copy-out-test c = omega (arith, c .before .before .before .pre .few)
 
@@ -43,31 +40,10 @@ width-at-requires c κs =
     let start = c .before .before .before .before in
     (start .pre .opened, start .pre .columns _ (c .before .loop-test .taken))
 
-literal-of-requires : tie.Need-literal-of-requires Inv-loop μ-loop
-literal-of-requires c κs = search needs
-
 offset-at-requires : tie.Need-offset-at-requires Inv-loop μ-loop
 offset-at-requires c κs =
     let start = c .before .before .before .before .before .before in
     (start .pre .opened, start .pre .columns _ (c .before .before .before .loop-test .taken))
-
-mul-offsets : tie.Need-mul-offsets Inv-loop μ-loop
-mul-offsets c = omega arith
-
-array-write-offsets : tie.Need-array-write-offsets Inv-loop μ-loop
-array-write-offsets c = omega arith
-
-slices-of-requires : tie.Need-slices-of-requires Inv-loop μ-loop
-slices-of-requires c κs = search needs
-
-mul-slices : tie.Need-mul-slices Inv-loop μ-loop
-mul-slices c = omega arith
-
-array-write-slices : tie.Need-array-write-slices Inv-loop μ-loop
-array-write-slices c = omega arith
-
-mul-plan-bytes : tie.Need-mul-plan-bytes Inv-loop μ-loop
-mul-plan-bytes c = omega arith
 
 plan-bytes-requires : tie.Need-plan-bytes-requires Inv-loop μ-loop
 plan-bytes-requires c κs =
@@ -76,12 +52,6 @@ plan-bytes-requires c κs =
     let start = turn .before .before .before in
     let long = turn .before .loop .inv .2 in
     (literal-here (c .before .before .before .before), omega (arith, start .pre .few, turn .loop-test .taken), long .2, long .3)
-
-add-t : tie.Need-add-t Inv-loop μ-loop
-add-t c = omega arith
-
-loop-less : tie.Need-loop-less Inv-loop μ-loop
-loop-less c = omega arith
 
 loop-again : tie.Need-loop-again Inv-loop μ-loop
 loop-again c =
@@ -120,19 +90,19 @@ plan-of-spec =
     Inv-loop
     μ-loop
     loop-holds
-    mul-test
+    (λ c. omega arith)
     array-copy-out-test
     width-at-requires
-    literal-of-requires
+    (λ c κs. search needs)
     offset-at-requires
-    mul-offsets
-    array-write-offsets
-    slices-of-requires
-    mul-slices
-    array-write-slices
-    mul-plan-bytes
+    (λ c. omega arith)
+    (λ c. omega arith)
+    (λ c κs. search needs)
+    (λ c. omega arith)
+    (λ c. omega arith)
+    (λ c. omega arith)
     plan-bytes-requires
-    add-t
-    loop-less
+    (λ c. omega arith)
+    (λ c. omega arith)
     loop-again
     returns)

@@ -139,42 +139,11 @@ slices-holds c = (omega arith, begun (fit (c .before .before)) (c .in-rows .ensu
 tests-holds : tie.Need-tests-holds Inv-rows μ-rows Inv-tests μ-tests Inv-slices μ-slices
 tests-holds c = (omega arith, c .before .slices .inv .1)
 
-mul-if1 : tie.Need-mul-if1 Inv-rows μ-rows Inv-tests μ-tests Inv-slices μ-slices
-mul-if1 c = omega arith
-
-element-copy-out-if1 :
-    tie.Need-element-copy-out-if1 Inv-rows μ-rows Inv-tests μ-tests Inv-slices μ-slices
-element-copy-out-if1 c = omega arith
-
-mul-base : tie.Need-mul-base Inv-rows μ-rows Inv-tests μ-tests Inv-slices μ-slices
-mul-base c = omega arith
-
 rows-holds : tie.Need-rows-holds Inv-rows μ-rows Inv-tests μ-tests Inv-slices μ-slices
 rows-holds c = (omega arith, omega arith, refl)
 
-add-open-row : tie.Need-add-open-row Inv-rows μ-rows Inv-tests μ-tests Inv-slices μ-slices
-add-open-row c = omega arith
-
-array-read-open-row :
-    tie.Need-array-read-open-row Inv-rows μ-rows Inv-tests μ-tests Inv-slices μ-slices
-array-read-open-row c = omega arith
-
-array-read-open-row-2 :
-    tie.Need-array-read-open-row-2 Inv-rows μ-rows Inv-tests μ-tests Inv-slices μ-slices
-array-read-open-row-2 c = omega arith
-
-open-row-requires :
-    tie.Need-open-row-requires Inv-rows μ-rows Inv-tests μ-tests Inv-slices μ-slices
-open-row-requires c κs = search needs
-
 add-open : tie.Need-add-open Inv-rows μ-rows Inv-tests μ-tests Inv-slices μ-slices
 add-open c = omega (arith, at-most-one c)
-
-add-r : tie.Need-add-r Inv-rows μ-rows Inv-tests μ-tests Inv-slices μ-slices
-add-r c = omega arith
-
-rows-less : tie.Need-rows-less Inv-rows μ-rows Inv-tests μ-tests Inv-slices μ-slices
-rows-less c = omega arith
 
 rows-again : tie.Need-rows-again Inv-rows μ-rows Inv-tests μ-tests Inv-slices μ-slices
 rows-again c =
@@ -183,13 +152,6 @@ rows-again c =
     let opened = openIn (turn .before .tests .standings) (testOf turn * longestSegment) (rowsOf turn) in
     let more : sum opened (below (r + 1)) ≡ sum opened (below r) + opened r = rw add-one (sum-one-more opened r) in
     (omega arith, omega (arith, at-most-one c), omega (arith, more, c .open-row .ensures))
-
-mul-from : tie.Need-mul-from Inv-rows μ-rows Inv-tests μ-tests Inv-slices μ-slices
-mul-from c = omega arith
-
-element-copy-out-from :
-    tie.Need-element-copy-out-from Inv-rows μ-rows Inv-tests μ-tests Inv-slices μ-slices
-element-copy-out-from c = omega arith
 
 mul-from-2 : tie.Need-mul-from-2 Inv-rows μ-rows Inv-tests μ-tests Inv-slices μ-slices
 mul-from-2 c = omega (arith, room (c .before))
@@ -200,34 +162,8 @@ add-from c = omega (arith, room (c .before))
 add-from-2 : tie.Need-add-from-2 Inv-rows μ-rows Inv-tests μ-tests Inv-slices μ-slices
 add-from-2 c = omega (arith, room (c .before))
 
-mul-low : tie.Need-mul-low Inv-rows μ-rows Inv-tests μ-tests Inv-slices μ-slices
-mul-low c = omega arith
-
-add-low : tie.Need-add-low Inv-rows μ-rows Inv-tests μ-tests Inv-slices μ-slices
-add-low c = omega arith
-
-element-copy-out-low :
-    tie.Need-element-copy-out-low Inv-rows μ-rows Inv-tests μ-tests Inv-slices μ-slices
-element-copy-out-low c = omega arith
-
-mul-high : tie.Need-mul-high Inv-rows μ-rows Inv-tests μ-tests Inv-slices μ-slices
-mul-high c = omega arith
-
-add-high : tie.Need-add-high Inv-rows μ-rows Inv-tests μ-tests Inv-slices μ-slices
-add-high c = omega arith
-
-element-copy-out-high :
-    tie.Need-element-copy-out-high Inv-rows μ-rows Inv-tests μ-tests Inv-slices μ-slices
-element-copy-out-high c = omega arith
-
 add-step : tie.Need-add-step Inv-rows μ-rows Inv-tests μ-tests Inv-slices μ-slices
 add-step c = omega (arith, room (c .before .before .before))
-
-sub-step : tie.Need-sub-step Inv-rows μ-rows Inv-tests μ-tests Inv-slices μ-slices
-sub-step c = omega arith
-
-part-step-start : tie.Need-part-step-start Inv-rows μ-rows Inv-tests μ-tests Inv-slices μ-slices
-part-step-start c = omega arith
 
 part-step-end : tie.Need-part-step-end Inv-rows μ-rows Inv-tests μ-tests Inv-slices μ-slices
 part-step-end c = omega (arith, room (c .before .before .before))
@@ -237,13 +173,6 @@ step-requires c κs =
     let shown = c .before .before .before .before .before in
     let turn = turnOf shown in
     (omega (arith, long shown, entryOf turn .pre .0 .short, entryOf turn .pre .0 .judged .few), so-far turn .all-standings)
-
-mul-counts : tie.Need-mul-counts Inv-rows μ-rows Inv-tests μ-tests Inv-slices μ-slices
-mul-counts c = omega arith
-
-array-read-counts :
-    tie.Need-array-read-counts Inv-rows μ-rows Inv-tests μ-tests Inv-slices μ-slices
-array-read-counts c = omega arith
 
 add-counts : tie.Need-add-counts Inv-rows μ-rows Inv-tests μ-tests Inv-slices μ-slices
 add-counts c =
@@ -255,19 +184,6 @@ add-counts c =
       so-far turn .to-count (testOf turn) (omega arith) few,
       counted-few (workAt (entryOf turn)) (testOf turn) (sliceOf turn) short,
     )
-
-mul-counts-2 : tie.Need-mul-counts-2 Inv-rows μ-rows Inv-tests μ-tests Inv-slices μ-slices
-mul-counts-2 c = omega arith
-
-array-write-counts :
-    tie.Need-array-write-counts Inv-rows μ-rows Inv-tests μ-tests Inv-slices μ-slices
-array-write-counts c = omega arith
-
-add-t : tie.Need-add-t Inv-rows μ-rows Inv-tests μ-tests Inv-slices μ-slices
-add-t c = omega arith
-
-tests-less : tie.Need-tests-less Inv-rows μ-rows Inv-tests μ-tests Inv-slices μ-slices
-tests-less c = omega arith
 
 tests-again : tie.Need-tests-again Inv-rows μ-rows Inv-tests μ-tests Inv-slices μ-slices
 tests-again c =
@@ -296,16 +212,6 @@ tests-again c =
           (takes-within (workAt entry) (testOf turn) (sliceOf turn) (omega (arith, w .0 .left, pre .1 .so-many (testOf turn) next))))))
           (c .if1 .came),
     )
-
-rule-all-requires :
-    tie.Need-rule-all-requires Inv-rows μ-rows Inv-tests μ-tests Inv-slices μ-slices
-rule-all-requires c κs = omega arith
-
-add-j : tie.Need-add-j Inv-rows μ-rows Inv-tests μ-tests Inv-slices μ-slices
-add-j c = omega arith
-
-slices-less : tie.Need-slices-less Inv-rows μ-rows Inv-tests μ-tests Inv-slices μ-slices
-slices-less c = omega arith
 
 slices-again : tie.Need-slices-again Inv-rows μ-rows Inv-tests μ-tests Inv-slices μ-slices
 slices-again c =
@@ -355,45 +261,45 @@ scan-segment-spec =
     in-rows-requires
     slices-holds
     tests-holds
-    mul-if1
-    element-copy-out-if1
-    mul-base
+    (λ c. omega arith)
+    (λ c. omega arith)
+    (λ c. omega arith)
     rows-holds
-    add-open-row
-    array-read-open-row
-    array-read-open-row-2
-    open-row-requires
+    (λ c. omega arith)
+    (λ c. omega arith)
+    (λ c. omega arith)
+    (λ c κs. search needs)
     add-open
-    add-r
-    rows-less
+    (λ c. omega arith)
+    (λ c. omega arith)
     rows-again
-    mul-from
-    element-copy-out-from
+    (λ c. omega arith)
+    (λ c. omega arith)
     mul-from-2
     add-from
     add-from-2
-    mul-low
-    add-low
-    element-copy-out-low
-    mul-high
-    add-high
-    element-copy-out-high
+    (λ c. omega arith)
+    (λ c. omega arith)
+    (λ c. omega arith)
+    (λ c. omega arith)
+    (λ c. omega arith)
+    (λ c. omega arith)
     add-step
-    sub-step
-    part-step-start
+    (λ c. omega arith)
+    (λ c. omega arith)
     part-step-end
     step-requires
-    mul-counts
-    array-read-counts
+    (λ c. omega arith)
+    (λ c. omega arith)
     add-counts
-    mul-counts-2
-    array-write-counts
-    add-t
-    tests-less
+    (λ c. omega arith)
+    (λ c. omega arith)
+    (λ c. omega arith)
+    (λ c. omega arith)
     tests-again
-    rule-all-requires
-    add-j
-    slices-less
+    (λ c κs. omega arith)
+    (λ c. omega arith)
+    (λ c. omega arith)
     slices-again
     last-all-requires
     returns)

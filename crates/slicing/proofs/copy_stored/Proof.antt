@@ -57,17 +57,8 @@ small c =
     let same = times-unit (widthOf (args .widths .now) (args .column)) code _ (c .before .before .unit-of .ensures) in
     omega (arith, stored-small _ _ _ (pre .1 .0) _ _ (row-there c) (pre .1 .1 .0) (pre .0))
 
-shared-slice-read-unit-of : tie.Need-shared-slice-read-unit-of Inv-loop μ-loop
-shared-slice-read-unit-of c = omega arith
-
-unit-of-requires : tie.Need-unit-of-requires Inv-loop μ-loop
-unit-of-requires c κs = search needs
-
 loop-holds : tie.Need-loop-holds Inv-loop μ-loop
 loop-holds c = (omega arith, refl, holds-nothing _ _)
-
-add-row : tie.Need-add-row Inv-loop μ-loop
-add-row c = omega arith
 
 mul-stored : tie.Need-mul-stored Inv-loop μ-loop
 mul-stored c = omega (arith, there c)
@@ -87,17 +78,8 @@ mul-stored-3 c = omega (arith, small (c .before))
 cast-stored : tie.Need-cast-stored Inv-loop μ-loop
 cast-stored c = omega (arith, small (c .before))
 
-mul-stored-4 : tie.Need-mul-stored-4 Inv-loop μ-loop
-mul-stored-4 c = search needs
-
 element-write-stored : tie.Need-element-write-stored Inv-loop μ-loop
 element-write-stored c = omega (arith, start (c .before) .pre)
-
-add-k : tie.Need-add-k Inv-loop μ-loop
-add-k c = omega arith
-
-loop-less : tie.Need-loop-less Inv-loop μ-loop
-loop-less c = omega arith
 
 loop-again : tie.Need-loop-again Inv-loop μ-loop
 loop-again c =
@@ -123,19 +105,19 @@ copy-stored-spec =
     (tie.spec
     Inv-loop
     μ-loop
-    shared-slice-read-unit-of
-    unit-of-requires
+    (λ c. omega arith)
+    (λ c κs. search needs)
     loop-holds
-    add-row
+    (λ c. omega arith)
     mul-stored
     add-stored
     mul-stored-2
     shared-slice-read-stored
     mul-stored-3
     cast-stored
-    mul-stored-4
+    (λ c. search needs)
     element-write-stored
-    add-k
-    loop-less
+    (λ c. omega arith)
+    (λ c. omega arith)
     loop-again
     returns)

@@ -56,20 +56,8 @@ write-block-column-requires c κs =
       ),
     )
 
-shared-slice-read-slices-of : tie.Need-shared-slice-read-slices-of Inv-loop μ-loop
-shared-slice-read-slices-of c = omega arith
-
-slices-of-requires : tie.Need-slices-of-requires Inv-loop μ-loop
-slices-of-requires c κs = search needs
-
 add-slices : tie.Need-add-slices Inv-loop μ-loop
 add-slices c = omega (arith, passed c .few, start (turnOf c) .pre .0 .few)
-
-add-column : tie.Need-add-column Inv-loop μ-loop
-add-column c = omega arith
-
-loop-less : tie.Need-loop-less Inv-loop μ-loop
-loop-less c = omega arith
 
 loop-again : tie.Need-loop-again Inv-loop μ-loop
 loop-again c =
@@ -98,11 +86,11 @@ write-block-spec =
     μ-loop
     loop-holds
     write-block-column-requires
-    shared-slice-read-slices-of
-    slices-of-requires
+    (λ c. omega arith)
+    (λ c κs. search needs)
     add-slices
-    add-column
-    loop-less
+    (λ c. omega arith)
+    (λ c. omega arith)
     loop-again
     same-length
     returns)

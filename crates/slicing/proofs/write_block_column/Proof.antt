@@ -57,12 +57,6 @@ copy-stored-requires c κs =
     let pre = c .before .before .before .before .pre in
     (pre .0, (pre .1 .0, (pre .1 .1 .1 .0, pre .1 .1 .0 .within, pre .1 .1 .0 .few, refl)))
 
-shared-slice-read-slices-of : tie.Need-shared-slice-read-slices-of Inv-loop μ-loop
-shared-slice-read-slices-of c = omega arith
-
-slices-of-requires : tie.Need-slices-of-requires Inv-loop μ-loop
-slices-of-requires c κs = search needs
-
 loop-holds : tie.Need-loop-holds Inv-loop μ-loop
 loop-holds c =
     let args = c .before .before .before .before .before .before .before .args in
@@ -77,12 +71,6 @@ mul-at c = omega (arith, room c)
 add-at-2 : tie.Need-add-at-2 Inv-loop μ-loop
 add-at-2 c = omega (arith, room c)
 
-sub-write-run : tie.Need-sub-write-run Inv-loop μ-loop
-sub-write-run c = omega arith
-
-sub-write-run-2 : tie.Need-sub-write-run-2 Inv-loop μ-loop
-sub-write-run-2 c = omega arith
-
 mul-write-run : tie.Need-mul-write-run Inv-loop μ-loop
 mul-write-run c = omega (arith, few (c .before))
 
@@ -91,12 +79,6 @@ write-run-requires c κs =
     let turn = c .before .before in
     let long = turn .before .loop .inv .1 .same-length in
     (start turn .pre .1 .1 .0 .few, omega (arith, few turn), omega (arith, room turn))
-
-add-slice : tie.Need-add-slice Inv-loop μ-loop
-add-slice c = omega arith
-
-loop-less : tie.Need-loop-less Inv-loop μ-loop
-loop-less c = omega arith
 
 loop-again : tie.Need-loop-again Inv-loop μ-loop
 loop-again c =
@@ -130,18 +112,18 @@ write-block-column-spec =
     Inv-loop
     μ-loop
     copy-stored-requires
-    shared-slice-read-slices-of
-    slices-of-requires
+    (λ c. omega arith)
+    (λ c κs. search needs)
     loop-holds
     add-at
     mul-at
     add-at-2
-    sub-write-run
-    sub-write-run-2
+    (λ c. omega arith)
+    (λ c. omega arith)
     mul-write-run
     write-run-requires
-    add-slice
-    loop-less
+    (λ c. omega arith)
+    (λ c. omega arith)
     loop-again
     same-length
     returns)

@@ -28,12 +28,6 @@ start c = c .before .before .before .before .before
 loop-holds : tie.Need-loop-holds Inv-loop μ-loop
 loop-holds c = (omega arith, put-no-rows _ _ (c .before .before .before .args .out .now) 0 0 _)
 
-sub-rows-in-block : tie.Need-sub-rows-in-block Inv-loop μ-loop
-sub-rows-in-block c = omega arith
-
-rows-in-block-requires : tie.Need-rows-in-block-requires Inv-loop μ-loop
-rows-in-block-requires c κs = search needs
-
 write-block-requires : tie.Need-write-block-requires Inv-loop μ-loop
 write-block-requires c κs =
     let turn = c .before .before in
@@ -44,9 +38,6 @@ write-block-requires c κs =
 
 add-first : tie.Need-add-first Inv-loop μ-loop
 add-first c = omega (arith, c .before .before .before .before .rows-in-block .ensures)
-
-loop-less : tie.Need-loop-less Inv-loop μ-loop
-loop-less c = omega arith
 
 loop-again : tie.Need-loop-again Inv-loop μ-loop
 loop-again c =
@@ -77,11 +68,11 @@ write-body-spec =
     Inv-loop
     μ-loop
     loop-holds
-    sub-rows-in-block
-    rows-in-block-requires
+    (λ c. omega arith)
+    (λ c κs. search needs)
     write-block-requires
     add-first
-    loop-less
+    (λ c. omega arith)
     loop-again
     same-length
     returns)

@@ -33,15 +33,6 @@ ones-then-zeros inside n k swept =
 loop-holds : tie.Need-loop-holds Inv-loop μ-loop
 loop-holds c = (omega arith, swept-nothing _ _ _)
 
-array-write-inside : tie.Need-array-write-inside Inv-loop μ-loop
-array-write-inside c = omega arith
-
-add-r : tie.Need-add-r Inv-loop μ-loop
-add-r c = omega arith
-
-loop-less : tie.Need-loop-less Inv-loop μ-loop
-loop-less c = omega arith
-
 loop-again : tie.Need-loop-again Inv-loop μ-loop
 loop-again c =
     let loop = c .before .loop in
@@ -57,4 +48,4 @@ returns c =
 pub in-rows-spec : {M : Type 1} → statement M
 in-rows-spec =
     tie.close
-    (tie.spec Inv-loop μ-loop loop-holds array-write-inside add-r loop-less loop-again returns)
+    (tie.spec Inv-loop μ-loop loop-holds (λ c. omega arith) (λ c. omega arith) (λ c. omega arith) loop-again returns)

@@ -20,24 +20,6 @@ abbrev μ-loop : tie.MeasureT-loop
 loop-holds : tie.Need-loop-holds Inv-loop μ-loop
 loop-holds c = (omega arith, none-taken-out failsKept (c .args .t1) (c .args .standings .now) _ _)
 
-mul-test : tie.Need-mul-test Inv-loop μ-loop
-mul-test c = omega arith
-
-array-copy-out-test : tie.Need-array-copy-out-test Inv-loop μ-loop
-array-copy-out-test c = omega arith
-
-mul-last : tie.Need-mul-last Inv-loop μ-loop
-mul-last c = omega arith
-
-last-requires : tie.Need-last-requires Inv-loop μ-loop
-last-requires c κs = omega arith
-
-add-t : tie.Need-add-t Inv-loop μ-loop
-add-t c = omega arith
-
-loop-less : tie.Need-loop-less Inv-loop μ-loop
-loop-less c = omega arith
-
 loop-again : tie.Need-loop-again Inv-loop μ-loop
 loop-again c =
     let turn = c .before .before .before .before in
@@ -57,11 +39,11 @@ last-all-spec =
     Inv-loop
     μ-loop
     loop-holds
-    mul-test
-    array-copy-out-test
-    mul-last
-    last-requires
-    add-t
-    loop-less
+    (λ c. omega arith)
+    (λ c. omega arith)
+    (λ c. omega arith)
+    (λ c κs. omega arith)
+    (λ c. omega arith)
+    (λ c. omega arith)
     loop-again
     returns)

@@ -20,24 +20,6 @@ abbrev μ-loop : tie.MeasureT-loop
 loop-holds : tie.Need-loop-holds Inv-loop μ-loop
 loop-holds c = (omega arith, none-taken-out rulesOutKept (c .args .t1) (c .args .standings .now) _ _)
 
-mul-test : tie.Need-mul-test Inv-loop μ-loop
-mul-test c = omega arith
-
-array-copy-out-test : tie.Need-array-copy-out-test Inv-loop μ-loop
-array-copy-out-test c = omega arith
-
-mul-rule : tie.Need-mul-rule Inv-loop μ-loop
-mul-rule c = omega arith
-
-rule-requires : tie.Need-rule-requires Inv-loop μ-loop
-rule-requires c κs = omega arith
-
-add-t : tie.Need-add-t Inv-loop μ-loop
-add-t c = omega arith
-
-loop-less : tie.Need-loop-less Inv-loop μ-loop
-loop-less c = omega arith
-
 loop-again : tie.Need-loop-again Inv-loop μ-loop
 loop-again c =
     let turn = c .before .before .before .before in
@@ -57,11 +39,11 @@ rule-all-spec =
     Inv-loop
     μ-loop
     loop-holds
-    mul-test
-    array-copy-out-test
-    mul-rule
-    rule-requires
-    add-t
-    loop-less
+    (λ c. omega arith)
+    (λ c. omega arith)
+    (λ c. omega arith)
+    (λ c κs. omega arith)
+    (λ c. omega arith)
+    (λ c. omega arith)
     loop-again
     returns)

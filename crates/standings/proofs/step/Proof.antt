@@ -25,30 +25,6 @@ abbrev μ-loop : tie.MeasureT-loop
 loop-holds : tie.Need-loop-holds Inv-loop μ-loop
 loop-holds c = (omega arith, swept-nothing _ _ _)
 
-add-step-row : tie.Need-add-step-row Inv-loop μ-loop
-add-step-row c = omega arith
-
-element-copy-out-step-row : tie.Need-element-copy-out-step-row Inv-loop μ-loop
-element-copy-out-step-row c = omega arith
-
-shared-slice-read-step-row : tie.Need-shared-slice-read-step-row Inv-loop μ-loop
-shared-slice-read-step-row c = omega arith
-
-step-row-requires : tie.Need-step-row-requires Inv-loop μ-loop
-step-row-requires c κs = search needs
-
-add-standings : tie.Need-add-standings Inv-loop μ-loop
-add-standings c = omega arith
-
-element-write-standings : tie.Need-element-write-standings Inv-loop μ-loop
-element-write-standings c = omega arith
-
-add-r : tie.Need-add-r Inv-loop μ-loop
-add-r c = omega arith
-
-loop-less : tie.Need-loop-less Inv-loop μ-loop
-loop-less c = omega arith
-
 loop-again : tie.Need-loop-again Inv-loop μ-loop
 loop-again c =
     let args = c .before .before .before .before .before .before .args in
@@ -69,13 +45,13 @@ step-spec =
     Inv-loop
     μ-loop
     loop-holds
-    add-step-row
-    element-copy-out-step-row
-    shared-slice-read-step-row
-    step-row-requires
-    add-standings
-    element-write-standings
-    add-r
-    loop-less
+    (λ c. omega arith)
+    (λ c. omega arith)
+    (λ c. omega arith)
+    (λ c κs. search needs)
+    (λ c. omega arith)
+    (λ c. omega arith)
+    (λ c. omega arith)
+    (λ c. omega arith)
     loop-again
     returns)

@@ -25,27 +25,6 @@ abbrev μ-loop : tie.MeasureT-loop
 loop-holds : tie.Need-loop-holds Inv-loop μ-loop
 loop-holds c = (omega arith, swept-nothing _ _ _)
 
-add-left-row : tie.Need-add-left-row Inv-loop μ-loop
-add-left-row c = omega arith
-
-element-copy-out-left-row : tie.Need-element-copy-out-left-row Inv-loop μ-loop
-element-copy-out-left-row c = omega arith
-
-element-copy-out-left-row-2 : tie.Need-element-copy-out-left-row-2 Inv-loop μ-loop
-element-copy-out-left-row-2 c = omega arith
-
-left-row-requires : tie.Need-left-row-requires Inv-loop μ-loop
-left-row-requires c κs = search needs
-
-element-write-inside : tie.Need-element-write-inside Inv-loop μ-loop
-element-write-inside c = omega arith
-
-add-r : tie.Need-add-r Inv-loop μ-loop
-add-r c = omega arith
-
-loop-less : tie.Need-loop-less Inv-loop μ-loop
-loop-less c = omega arith
-
 loop-again : tie.Need-loop-again Inv-loop μ-loop
 loop-again c =
     let loop = c .before .before .before .before .loop in
@@ -63,12 +42,12 @@ take-out-spec =
     Inv-loop
     μ-loop
     loop-holds
-    add-left-row
-    element-copy-out-left-row
-    element-copy-out-left-row-2
-    left-row-requires
-    element-write-inside
-    add-r
-    loop-less
+    (λ c. omega arith)
+    (λ c. omega arith)
+    (λ c. omega arith)
+    (λ c κs. search needs)
+    (λ c. omega arith)
+    (λ c. omega arith)
+    (λ c. omega arith)
     loop-again
     returns)

@@ -59,9 +59,6 @@ by c =
     let made = c .before .before .before .before .limits-of .ensures in
     by-limit (start c .args .widths .now) (start c .args .codes .now) _ made (c .before .loop .row)
 
-limits-of-requires : tie.Need-limits-of-requires Inv-loop μ-loop
-limits-of-requires c κs = search needs
-
 rows-below-requires : tie.Need-rows-below-requires Inv-loop μ-loop
 rows-below-requires c κs =
     let pre = c .before .before .before .before .pre in
@@ -94,12 +91,6 @@ returns c =
     let found = c .before .first-at-limit .ensures in
     rw found (sym (first-in-part _ _ _ _ (by turn) (turn .before .loop .inv .1) _ (row-within turn) (rw found at (c .if1 .taken))))
 
-add-row : tie.Need-add-row Inv-loop μ-loop
-add-row c = omega arith
-
-loop-less : tie.Need-loop-less Inv-loop μ-loop
-loop-less c = omega arith
-
 loop-again : tie.Need-loop-again Inv-loop μ-loop
 loop-again c =
     let turn = c .before .before .before in
@@ -122,7 +113,7 @@ first-too-large-spec =
     (tie.spec
     Inv-loop
     μ-loop
-    limits-of-requires
+    (λ c κs. search needs)
     rows-below-requires
     loop-holds
     mul-first-at-limit
@@ -130,7 +121,7 @@ first-too-large-spec =
     mul-result
     add-result
     returns
-    add-row
-    loop-less
+    (λ c. omega arith)
+    (λ c. omega arith)
     loop-again
     returns-2)

@@ -22,22 +22,10 @@ abbrev μ-loop : tie.MeasureT-loop
 loop-holds : tie.Need-loop-holds Inv-loop μ-loop
 loop-holds c = (omega arith, below-none _)
 
-shared-slice-read-unfit-width : tie.Need-shared-slice-read-unfit-width Inv-loop μ-loop
-shared-slice-read-unfit-width c = omega arith
-
-unfit-width-requires : tie.Need-unfit-width-requires Inv-loop μ-loop
-unfit-width-requires c κs = search needs
-
 returns : tie.Need-returns Inv-loop μ-loop
 returns c =
     let turn = c .before .before .before .before .loop in
     sym (first-is _ _ (turn .column) (omega arith) (sym (c .before .unfit-width .ensures) ∙ c .if1 .taken) (turn .inv .1))
-
-add-column : tie.Need-add-column Inv-loop μ-loop
-add-column c = omega arith
-
-loop-less : tie.Need-loop-less Inv-loop μ-loop
-loop-less c = omega arith
 
 loop-again : tie.Need-loop-again Inv-loop μ-loop
 loop-again c =
@@ -57,10 +45,10 @@ first-unfit-spec =
     Inv-loop
     μ-loop
     loop-holds
-    shared-slice-read-unfit-width
-    unfit-width-requires
+    (λ c. omega arith)
+    (λ c κs. search needs)
     returns
-    add-column
-    loop-less
+    (λ c. omega arith)
+    (λ c. omega arith)
     loop-again
     returns-2)

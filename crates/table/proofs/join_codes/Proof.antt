@@ -17,33 +17,6 @@ abbrev μ-loop : tie.MeasureT-loop
 loop-holds : tie.Need-loop-holds Inv-loop μ-loop
 loop-holds c = (omega arith, raised-nothing _ _ _)
 
-mul-joined : tie.Need-mul-joined Inv-loop μ-loop
-mul-joined c = search needs
-
-element-copy-out-joined : tie.Need-element-copy-out-joined Inv-loop μ-loop
-element-copy-out-joined c = omega arith
-
-add-joined : tie.Need-add-joined Inv-loop μ-loop
-add-joined c = omega arith
-
-mul-joined-2 : tie.Need-mul-joined-2 Inv-loop μ-loop
-mul-joined-2 c = search needs
-
-shared-slice-read-joined : tie.Need-shared-slice-read-joined Inv-loop μ-loop
-shared-slice-read-joined c = omega arith
-
-mul-joined-3 : tie.Need-mul-joined-3 Inv-loop μ-loop
-mul-joined-3 c = search needs
-
-element-write-joined : tie.Need-element-write-joined Inv-loop μ-loop
-element-write-joined c = omega arith
-
-add-k : tie.Need-add-k Inv-loop μ-loop
-add-k c = omega arith
-
-loop-less : tie.Need-loop-less Inv-loop μ-loop
-loop-less c = omega arith
-
 loop-again : tie.Need-loop-again Inv-loop μ-loop
 loop-again c =
     let turn = c .before .before .before .loop in
@@ -63,14 +36,14 @@ join-codes-spec =
     Inv-loop
     μ-loop
     loop-holds
-    mul-joined
-    element-copy-out-joined
-    add-joined
-    mul-joined-2
-    shared-slice-read-joined
-    mul-joined-3
-    element-write-joined
-    add-k
-    loop-less
+    (λ c. search needs)
+    (λ c. omega arith)
+    (λ c. omega arith)
+    (λ c. search needs)
+    (λ c. omega arith)
+    (λ c. search needs)
+    (λ c. omega arith)
+    (λ c. omega arith)
+    (λ c. omega arith)
     loop-again
     returns)

@@ -34,12 +34,6 @@ mul-join-codes c = omega (arith, within c)
 join-codes-requires : tie.Need-join-codes-requires Inv-loop μ-loop
 join-codes-requires c κs = (c .before .before .before .before .pre .0, within (c .before), c .before .before .loop .inv .1)
 
-add-i : tie.Need-add-i Inv-loop μ-loop
-add-i c = omega arith
-
-loop-less : tie.Need-loop-less Inv-loop μ-loop
-loop-less c = omega arith
-
 loop-again : tie.Need-loop-again Inv-loop μ-loop
 loop-again c =
     let turn = c .before .before .before .loop in
@@ -60,7 +54,7 @@ joined-codes-spec =
     loop-holds
     mul-join-codes
     join-codes-requires
-    add-i
-    loop-less
+    (λ c. omega arith)
+    (λ c. omega arith)
     loop-again
     returns)

@@ -30,26 +30,11 @@ narrow-turn c = narrow _ (c .before .before .before .pre) _ (c .before .loop-tes
 loop-holds : tie.Need-loop-holds Inv-loop μ-loop
 loop-holds c = (omega arith, refl, holds-nothing _ _)
 
-shared-slice-read-width : tie.Need-shared-slice-read-width Inv-loop μ-loop
-shared-slice-read-width c = omega arith
-
 cast-limits : tie.Need-cast-limits Inv-loop μ-loop
 cast-limits c = omega (arith, narrow-turn c)
 
 shl-limits : tie.Need-shl-limits Inv-loop μ-loop
 shl-limits c = omega (arith, narrow-turn c)
-
-mul-limits : tie.Need-mul-limits Inv-loop μ-loop
-mul-limits c = search needs
-
-array-write-limits : tie.Need-array-write-limits Inv-loop μ-loop
-array-write-limits c = omega arith
-
-add-column : tie.Need-add-column Inv-loop μ-loop
-add-column c = omega arith
-
-loop-less : tie.Need-loop-less Inv-loop μ-loop
-loop-less c = omega arith
 
 loop-again : tie.Need-loop-again Inv-loop μ-loop
 loop-again c =
@@ -72,12 +57,12 @@ limits-of-spec =
     Inv-loop
     μ-loop
     loop-holds
-    shared-slice-read-width
+    (λ c. omega arith)
     cast-limits
     shl-limits
-    mul-limits
-    array-write-limits
-    add-column
-    loop-less
+    (λ c. search needs)
+    (λ c. omega arith)
+    (λ c. omega arith)
+    (λ c. omega arith)
     loop-again
     returns)

@@ -29,9 +29,6 @@ column-there c =
     let inside : c .before .loop .place % columns < columns = mod-lt (c .before .loop .place) (start c .pre .0) in
     omega (arith, start c .pre .1)
 
-mul-period : tie.Need-mul-period Inv-loop μ-loop
-mul-period c = omega arith
-
 joined-codes-requires : tie.Need-joined-codes-requires Inv-loop μ-loop
 joined-codes-requires c κs =
     let args = c .before .args in
@@ -42,37 +39,19 @@ joined-codes-requires c κs =
 loop-holds : tie.Need-loop-holds Inv-loop μ-loop
 loop-holds c = (omega arith, λ earlier h. absurd (omega arith))
 
-rem-if1 : tie.Need-rem-if1 Inv-loop μ-loop
-rem-if1 c = omega arith
-
 mul-if1 : tie.Need-mul-if1 Inv-loop μ-loop
 mul-if1 c = omega (arith, column-there c)
 
 element-copy-out-if1 : tie.Need-element-copy-out-if1 Inv-loop μ-loop
 element-copy-out-if1 c = column-there c
 
-mul-if1-2 : tie.Need-mul-if1-2 Inv-loop μ-loop
-mul-if1-2 c = search needs
-
-array-read-if1 : tie.Need-array-read-if1 Inv-loop μ-loop
-array-read-if1 c = omega arith
-
 returns : tie.Need-returns Inv-loop μ-loop
 returns c = (omega arith, below-none _ _ _)
-
-add-place : tie.Need-add-place Inv-loop μ-loop
-add-place c = omega arith
-
-loop-less : tie.Need-loop-less Inv-loop μ-loop
-loop-less c = omega arith
 
 loop-again : tie.Need-loop-again Inv-loop μ-loop
 loop-again c =
     let turn = c .before .before .before .loop in
     (omega arith, below-more _ _ (turn .inv .1) (c .if1 .left))
-
-mul-result : tie.Need-mul-result Inv-loop μ-loop
-mul-result c = omega arith
 
 returns-2 : tie.Need-returns-2 Inv-loop μ-loop
 returns-2 c =
@@ -89,17 +68,17 @@ rows-below-spec =
     (tie.spec
     Inv-loop
     μ-loop
-    mul-period
+    (λ c. omega arith)
     joined-codes-requires
     loop-holds
-    rem-if1
+    (λ c. omega arith)
     mul-if1
     element-copy-out-if1
-    mul-if1-2
-    array-read-if1
+    (λ c. search needs)
+    (λ c. omega arith)
     returns
-    add-place
-    loop-less
+    (λ c. omega arith)
+    (λ c. omega arith)
     loop-again
-    mul-result
+    (λ c. omega arith)
     returns-2)

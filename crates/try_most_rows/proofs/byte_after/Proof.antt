@@ -5,17 +5,8 @@ use borrow.Author.Needs.{needs}
 use Rattle.try_most_rows.proofs.byte_after.Statement.{statement}
 use Rattle.try_most_rows.proofs.byte_after.Tie as tie
 
-shared-slice-read-wide : tie.Need-shared-slice-read-wide
-shared-slice-read-wide c = search needs
-
-wide-requires : tie.Need-wide-requires
-wide-requires c κs = search needs
-
-returns : tie.Need-returns
-returns c = search needs
-
 returns-2 : tie.Need-returns-2
 returns-2 c = sym (List·getD-eq-default (c .before .before .args .result .now) 0 {n = 131072} (c .if1 .left))
 
 pub byte-after-spec : {M : Type 1} → statement M
-byte-after-spec = tie.close (tie.spec shared-slice-read-wide wide-requires returns returns-2)
+byte-after-spec = tie.close (tie.spec (λ c. search needs) (λ c κs. search needs) (λ c. search needs) returns-2)

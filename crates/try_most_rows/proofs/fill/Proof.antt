@@ -19,23 +19,11 @@ abbrev μ-loop : tie.MeasureT-loop
 loop-holds : tie.Need-loop-holds Inv-loop μ-loop
 loop-holds c = (refl, refl, omega arith, refl)
 
-slice-write-result : tie.Need-slice-write-result Inv-loop μ-loop
-slice-write-result c = search needs
-
-add-i : tie.Need-add-i Inv-loop μ-loop
-add-i c = search needs
-
-loop-less : tie.Need-loop-less Inv-loop μ-loop
-loop-less c = search needs
-
 loop-again : tie.Need-loop-again Inv-loop μ-loop
 loop-again c =
     let turn = c .before .loop in
     let before = c .before .before .args .result .now in
     (refl, search needs, omega arith, rw (turn .inv .3) (fill-more (turn .i) 77 before (omega arith)))
-
-same-length : tie.Need-same-length Inv-loop μ-loop
-same-length c = search needs
 
 returns : tie.Need-returns Inv-loop μ-loop
 returns c =
@@ -52,9 +40,9 @@ fill-spec =
     Inv-loop
     μ-loop
     loop-holds
-    slice-write-result
-    add-i
-    loop-less
+    (λ c. search needs)
+    (λ c. search needs)
+    (λ c. search needs)
     loop-again
-    same-length
+    (λ c. search needs)
     returns)

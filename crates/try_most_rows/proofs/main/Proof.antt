@@ -12,13 +12,7 @@ slice-aggregate-show-all c = sym (length-replicate {A = ℕ} 2097176 0)
 slice-aggregate-show-all-2 : tie.Need-slice-aggregate-show-all-2
 slice-aggregate-show-all-2 c = sym (length-replicate {A = ℕ} 131073 77)
 
-show-all-requires : tie.Need-show-all-requires
-show-all-requires c κs = search needs
-
-returns : tie.Need-returns
-returns c = search needs
-
 pub main-spec : {M : Type 1} → statement M
 main-spec =
     tie.close
-    (tie.spec slice-aggregate-show-all slice-aggregate-show-all-2 show-all-requires returns)
+    (tie.spec slice-aggregate-show-all slice-aggregate-show-all-2 (λ c κs. search needs) (λ c. search needs))

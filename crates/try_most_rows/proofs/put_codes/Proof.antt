@@ -22,38 +22,8 @@ returns c = λ long. absurd (omega arith)
 loop-holds : tie.Need-loop-holds Inv-loop μ-loop
 loop-holds c = (omega arith, refl, record { first = below-none _; second = below-none _ })
 
-mul-code : tie.Need-mul-code Inv-loop μ-loop
-mul-code c = search needs
-
-mul-code-2 : tie.Need-mul-code-2 Inv-loop μ-loop
-mul-code-2 c = search needs
-
-add-code : tie.Need-add-code Inv-loop μ-loop
-add-code c = search needs
-
-cast-file : tie.Need-cast-file Inv-loop μ-loop
-cast-file c = search needs
-
-slice-write-file : tie.Need-slice-write-file Inv-loop μ-loop
-slice-write-file c = search needs
-
-mul-file : tie.Need-mul-file Inv-loop μ-loop
-mul-file c = search needs
-
-cast-file-2 : tie.Need-cast-file-2 Inv-loop μ-loop
-cast-file-2 c = search needs
-
-add-file : tie.Need-add-file Inv-loop μ-loop
-add-file c = search needs
-
 slice-write-file-2 : tie.Need-slice-write-file-2 Inv-loop μ-loop
 slice-write-file-2 c = simp length-set (omega arith)
-
-add-row : tie.Need-add-row Inv-loop μ-loop
-add-row c = search needs
-
-loop-less : tie.Need-loop-less Inv-loop μ-loop
-loop-less c = search needs
 
 loop-again : tie.Need-loop-again Inv-loop μ-loop
 loop-again c =
@@ -96,17 +66,17 @@ put-codes-spec =
     μ-loop
     returns
     loop-holds
-    mul-code
-    mul-code-2
-    add-code
-    cast-file
-    slice-write-file
-    mul-file
-    cast-file-2
-    add-file
+    (λ c. search needs)
+    (λ c. search needs)
+    (λ c. search needs)
+    (λ c. search needs)
+    (λ c. search needs)
+    (λ c. search needs)
+    (λ c. search needs)
+    (λ c. search needs)
     slice-write-file-2
-    add-row
-    loop-less
+    (λ c. search needs)
+    (λ c. search needs)
     loop-again
     same-length
     returns-2)

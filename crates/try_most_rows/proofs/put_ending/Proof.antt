@@ -31,20 +31,8 @@ returns c = sym (hit _ _ _ (lt-ltb _ _ (c .if1 .taken)))
 loop-holds : tie.Need-loop-holds Inv-loop μ-loop
 loop-holds c = (omega arith, filled-nothing _ _)
 
-array-read-file : tie.Need-array-read-file Inv-loop μ-loop
-array-read-file c = search needs
-
-add-file : tie.Need-add-file Inv-loop μ-loop
-add-file c = search needs
-
 slice-write-file : tie.Need-slice-write-file Inv-loop μ-loop
 slice-write-file c = omega (arith, c .before .loop .inv .1 .same-length)
-
-add-i : tie.Need-add-i Inv-loop μ-loop
-add-i c = search needs
-
-loop-less : tie.Need-loop-less Inv-loop μ-loop
-loop-less c = search needs
 
 loop-again : tie.Need-loop-again Inv-loop μ-loop
 unfolding ending toLittle
@@ -73,11 +61,11 @@ put-ending-spec =
     μ-loop
     returns
     loop-holds
-    array-read-file
-    add-file
+    (λ c. search needs)
+    (λ c. search needs)
     slice-write-file
-    add-i
-    loop-less
+    (λ c. search needs)
+    (λ c. search needs)
     loop-again
     same-length
     returns-2)

@@ -9,18 +9,9 @@ use Rattle.try_most_rows.proofs.put_one_row_more.Tie as tie
 returns : tie.Need-returns
 returns c = sym (hit _ _ _ (lt-ltb _ _ (c .if1 .taken)))
 
-add-file : tie.Need-add-file
-add-file c = search needs
-
-slice-write-file : tie.Need-slice-write-file
-slice-write-file c = search needs
-
-same-length : tie.Need-same-length
-same-length c = search needs
-
 returns-2 : tie.Need-returns-2
 returns-2 c = sym (missed _ _ _ (le-ltb _ _ (c .if1 .left)))
 
 pub put-one-row-more-spec : {M : Type 1} → statement M
 put-one-row-more-spec =
-    tie.close (tie.spec returns add-file slice-write-file same-length returns-2)
+    tie.close (tie.spec returns (λ c. search needs) (λ c. search needs) (λ c. search needs) returns-2)

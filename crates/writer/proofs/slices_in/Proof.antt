@@ -27,20 +27,8 @@ passed c =
 loop-holds : tie.Need-loop-holds Inv-loop μ-loop
 loop-holds c = none-counted _
 
-shared-slice-read-slices-of : tie.Need-shared-slice-read-slices-of Inv-loop μ-loop
-shared-slice-read-slices-of c = omega arith
-
-slices-of-requires : tie.Need-slices-of-requires Inv-loop μ-loop
-slices-of-requires c κs = search needs
-
 add-slices : tie.Need-add-slices Inv-loop μ-loop
 add-slices c = omega (arith, passed c .few, c .before .before .before .before .before .pre .few)
-
-add-column : tie.Need-add-column Inv-loop μ-loop
-add-column c = omega arith
-
-loop-less : tie.Need-loop-less Inv-loop μ-loop
-loop-less c = omega arith
 
 loop-again : tie.Need-loop-again Inv-loop μ-loop
 loop-again c = passed c
@@ -59,10 +47,10 @@ slices-in-spec =
     Inv-loop
     μ-loop
     loop-holds
-    shared-slice-read-slices-of
-    slices-of-requires
+    (λ c. omega arith)
+    (λ c κs. search needs)
     add-slices
-    add-column
-    loop-less
+    (λ c. omega arith)
+    (λ c. omega arith)
     loop-again
     returns)

@@ -44,35 +44,17 @@ loop-holds : tie.Need-loop-holds Inv-loop μ-loop
 unfolding flatten
 loop-holds c = let args = c .before .before .args in (none-counted _, filled-nothing (args .out .now) (args .at))
 
-shared-slice-read-width : tie.Need-shared-slice-read-width Inv-loop μ-loop
-shared-slice-read-width c = omega arith
-
 mul-write-entry : tie.Need-mul-write-entry Inv-loop μ-loop
 mul-write-entry c =
     let turn = c .before .before .loop in
     let pre = start (c .before) .pre in
     omega (arith, few-bytes _ (turn .slices) (turn .column) (pre .1 .0) (turn .inv .0 .few) (omega (arith, pre .0 .few)))
 
-mul-write-entry-2 : tie.Need-mul-write-entry-2 Inv-loop μ-loop
-mul-write-entry-2 c = omega arith
-
-add-write-entry : tie.Need-add-write-entry Inv-loop μ-loop
-add-write-entry c = omega arith
-
 write-entry-requires : tie.Need-write-entry-requires Inv-loop μ-loop
 write-entry-requires c κs = omega (arith, c .before .before .before .loop .inv .1 .same-length)
 
-slices-of-requires : tie.Need-slices-of-requires Inv-loop μ-loop
-slices-of-requires c κs = search needs
-
 add-slices : tie.Need-add-slices Inv-loop μ-loop
 add-slices c = omega (arith, passed c .few, start (turnOf c) .pre .0 .few)
-
-add-column : tie.Need-add-column Inv-loop μ-loop
-add-column c = omega arith
-
-loop-less : tie.Need-loop-less Inv-loop μ-loop
-loop-less c = omega arith
 
 loop-again : tie.Need-loop-again Inv-loop μ-loop
 loop-again c =
@@ -104,15 +86,15 @@ write-directory-spec =
     Inv-loop
     μ-loop
     loop-holds
-    shared-slice-read-width
+    (λ c. omega arith)
     mul-write-entry
-    mul-write-entry-2
-    add-write-entry
+    (λ c. omega arith)
+    (λ c. omega arith)
     write-entry-requires
-    slices-of-requires
+    (λ c κs. search needs)
     add-slices
-    add-column
-    loop-less
+    (λ c. omega arith)
+    (λ c. omega arith)
     loop-again
     same-length
     returns)

@@ -21,29 +21,14 @@ first-four out at width room =
     let three = filled-store out at (width ∷ 0 ∷ []) (at + 2) 0 two (omega arith) (omega arith) in
     filled-store out at (width ∷ 0 ∷ 0 ∷ []) (at + 3) 0 three (omega arith) (omega arith)
 
-slice-write-out : tie.Need-slice-write-out
-slice-write-out c = search needs
-
-add-out : tie.Need-add-out
-add-out c = search needs
-
 slice-write-out-2 : tie.Need-slice-write-out-2
 slice-write-out-2 c = simp length-set (omega arith)
-
-add-out-2 : tie.Need-add-out-2
-add-out-2 c = search needs
 
 slice-write-out-3 : tie.Need-slice-write-out-3
 slice-write-out-3 c = simp length-set (omega arith)
 
-add-out-3 : tie.Need-add-out-3
-add-out-3 c = search needs
-
 slice-write-out-4 : tie.Need-slice-write-out-4
 slice-write-out-4 c = simp length-set (omega arith)
-
-add-write-number : tie.Need-add-write-number
-add-write-number c = search needs
 
 write-number-requires : tie.Need-write-number-requires
 write-number-requires c κs = simp length-set (omega arith)
@@ -73,14 +58,14 @@ pub write-entry-spec : {M : Type 1} → statement M
 write-entry-spec =
     tie.close
     (tie.spec
-    slice-write-out
-    add-out
+    (λ c. search needs)
+    (λ c. search needs)
     slice-write-out-2
-    add-out-2
+    (λ c. search needs)
     slice-write-out-3
-    add-out-3
+    (λ c. search needs)
     slice-write-out-4
-    add-write-number
+    (λ c. search needs)
     write-number-requires
     same-length
     returns)

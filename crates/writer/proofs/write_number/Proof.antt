@@ -49,20 +49,11 @@ unfolding toLittle
 loop-holds c =
     record { within = omega arith; digits = sym (div-one (c .args .number)); so-far = filled-nothing (c .args .out .now) (c .args .at) }
 
-cast-out : tie.Need-cast-out Inv-loop μ-loop
-cast-out c = omega arith
-
 add-out : tie.Need-add-out Inv-loop μ-loop
 add-out c = omega (arith, c .before .before .pre)
 
 slice-write-out : tie.Need-slice-write-out Inv-loop μ-loop
 slice-write-out c = omega (arith, c .before .loop .inv .so-far .same-length)
-
-add-i : tie.Need-add-i Inv-loop μ-loop
-add-i c = omega arith
-
-loop-less : tie.Need-loop-less Inv-loop μ-loop
-loop-less c = omega arith
 
 loop-again : tie.Need-loop-again Inv-loop μ-loop
 loop-again c =
@@ -85,11 +76,11 @@ write-number-spec =
     Inv-loop
     μ-loop
     loop-holds
-    cast-out
+    (λ c. omega arith)
     add-out
     slice-write-out
-    add-i
-    loop-less
+    (λ c. omega arith)
+    (λ c. omega arith)
     loop-again
     same-length
     returns)

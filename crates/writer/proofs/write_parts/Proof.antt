@@ -36,24 +36,6 @@ parts-are-file rows widths codes out body end room said-1 said-2 said-3 =
     let upto-3 = filled-more out 0 (front ++ middle) (body + entryBytes * length widths) last upto-2 (omega arith) (omega arith) said-3 in
     rw end at (upto-3 .filled ∙ ap (laid out 0) (append-assoc front middle last))
 
-write-body-requires : tie.Need-write-body-requires
-write-body-requires c κs = search needs
-
-write-directory-requires : tie.Need-write-directory-requires
-write-directory-requires c κs = search needs
-
-mul-write-trailer : tie.Need-mul-write-trailer
-mul-write-trailer c = search needs
-
-add-write-trailer : tie.Need-add-write-trailer
-add-write-trailer c = search needs
-
-write-trailer-requires : tie.Need-write-trailer-requires
-write-trailer-requires c κs = search needs
-
-same-length : tie.Need-same-length
-same-length c = search needs
-
 returns : tie.Need-returns
 returns c =
     let third = c .before .before in
@@ -67,10 +49,10 @@ pub write-parts-spec : {M : Type 1} → statement M
 write-parts-spec =
     tie.close
     (tie.spec
-    write-body-requires
-    write-directory-requires
-    mul-write-trailer
-    add-write-trailer
-    write-trailer-requires
-    same-length
+    (λ c κs. search needs)
+    (λ c κs. search needs)
+    (λ c. search needs)
+    (λ c. search needs)
+    (λ c κs. search needs)
+    (λ c. search needs)
     returns)

@@ -50,36 +50,6 @@ module _ (out : List ℕ) (at : ℕ) where
       let upto-5 = next (((a ++ b) ++ c) ++ d) 12 4 mark (simp (length-append, length-toLittle)) (omega arith) upto-4 said-5 in
       rw mark-written at (upto-5 .filled ∙ ap (laid out at) (regroup a b c d (toLittle 4 mark)))
 
-write-number-requires : tie.Need-write-number-requires
-write-number-requires c κs = search needs
-
-add-write-number : tie.Need-add-write-number
-add-write-number c = search needs
-
-write-number-requires-2 : tie.Need-write-number-requires-2
-write-number-requires-2 c κs = search needs
-
-add-write-number-2 : tie.Need-add-write-number-2
-add-write-number-2 c = search needs
-
-write-number-requires-3 : tie.Need-write-number-requires-3
-write-number-requires-3 c κs = search needs
-
-add-write-number-3 : tie.Need-add-write-number-3
-add-write-number-3 c = search needs
-
-write-number-requires-4 : tie.Need-write-number-requires-4
-write-number-requires-4 c κs = search needs
-
-add-write-number-4 : tie.Need-add-write-number-4
-add-write-number-4 c = search needs
-
-write-number-requires-5 : tie.Need-write-number-requires-5
-write-number-requires-5 c κs = search needs
-
-same-length : tie.Need-same-length
-same-length c = search needs
-
 returns : tie.Need-returns
 unfolding mark little
 returns c =
@@ -96,14 +66,14 @@ pub write-trailer-spec : {M : Type 1} → statement M
 write-trailer-spec =
     tie.close
     (tie.spec
-    write-number-requires
-    add-write-number
-    write-number-requires-2
-    add-write-number-2
-    write-number-requires-3
-    add-write-number-3
-    write-number-requires-4
-    add-write-number-4
-    write-number-requires-5
-    same-length
+    (λ c κs. search needs)
+    (λ c. search needs)
+    (λ c κs. search needs)
+    (λ c. search needs)
+    (λ c κs. search needs)
+    (λ c. search needs)
+    (λ c κs. search needs)
+    (λ c. search needs)
+    (λ c κs. search needs)
+    (λ c. search needs)
     returns)
