@@ -1,5 +1,5 @@
-// Prints how long each exported call takes beside its plain C twin, as tables. A difference between their answers ends the run
-// with status 1.
+// Prints how long each exported call takes beside its plain C twin, or beside an earlier state of itself that stands in its place (OTHER
+// says which), as tables. A difference between their answers ends the run with status 1.
 // usage: bench [RUNS]
 #include <stdarg.h>
 #include <stdio.h>
@@ -95,7 +95,7 @@ static unsigned long long time_workload(const struct workload *workload, double 
 }
 
 static void time_scan(void) {
-    static const char *const columns[] = {"proved", "C", "ratio", "C by segment", "ratio"};
+    static const char *const columns[] = {"proved", OTHER, "ratio", "C by segment", "ratio"};
     double plain[4];
     unsigned long long matches[WORKLOADS];
     print_head("scan, segment, ns a row", columns, 5);
@@ -107,7 +107,7 @@ static void time_scan(void) {
 
 // The other calls
 
-static const char *const pair_columns[] = {"proved", "C", "ratio"};
+static const char *const pair_columns[] = {"proved", OTHER, "ratio"};
 
 static void time_lookup(void) {
     struct register_input parts = make_register(FULL, looked_up, 3);
@@ -198,7 +198,7 @@ static void time_growth(void) {
     print_head("ns a row (lookup: a code)", columns, SIZES);
     for (int call = 0; call < GROWING; call++)
         for (int side = 0; side < 2; side++) {
-            say("| %s%s |", growing[call], side ? ", C" : "");
+            say("| %s%s |", growing[call], side ? ", " OTHER : "");
             for (int i = 0; i < SIZES; i++) say(" %.2f |", ns[i][call][side]);
             say("\n");
         }
