@@ -23,7 +23,7 @@ use Rattle.answers.specs.declared.Refusal.{Refusal}
 use Rattle.answers.specs.Answers.{refusal}
 use Rattle.register.specs.declared.Shape.{Shape}
 use Rattle.register.specs.declared.Opened.the-variants.{Register, Refused}
-use Rattle.register.specs.File.{rowsIn, columnsIn}
+use Rattle.directory.specs.File.{rowsIn, columnsIn}
 use Rattle.register.specs.Opening.{openLines, openedOf}
 use Rattle.register.proofs.Fit.{register-told}
 use Rattle.register.proofs.PassedOn.{refusal-told}
@@ -31,7 +31,7 @@ use Rattle.query.specs.declared.Test.{Test}
 use Rattle.query.specs.declared.Query.{Query}
 use Rattle.query.specs.Tests.{testsOf}
 use Rattle.asking.specs.Sizes.{unfitSize}
-use Rattle.asking.specs.Refusals.{testsLines, queryLines, askLines, askedOf}
+use Rattle.asking.specs.Refusals.{linesForAll, queryLines, askLines, askedOf}
 use Rattle.asking.specs.Judged.{Judged}
 use Rattle.asking.proofs.Judging.{FitTest, each-test-fits, judged}
 
@@ -56,7 +56,7 @@ module _ (file : List ℕ) (size : ℕ) (query : Query) where
     unfolding queryLines
     few-tests = ltb-false mostTests (query .count) (failing .1 .0)
 
-    pub each-fits : firstLine (testsLines file 0 (testsOf query)) ≡ none
+    pub each-fits : firstLine (linesForAll file 0 (testsOf query)) ≡ none
     unfolding queryLines
     each-fits =
         sym (passes (passes (at-first (queryLines file size query)) (failing .0)) (failing .1 .0) .alike) ∙ apart .1

@@ -26,13 +26,13 @@ use Rattle.answers.specs.Answers.{refusal}
 use Rattle.codes.specs.Width.{tooLarge}
 use Rattle.register.specs.declared.Shape.{Shape}
 use Rattle.register.specs.declared.Opened.the-variants.{Register}
-use Rattle.register.specs.File.{columnsIn, widthIn}
+use Rattle.directory.specs.File.{columnsIn, widthIn}
 use Rattle.register.specs.Opening.{openedOf}
 use Rattle.register.proofs.Fit.{columns-as-opened}
 use Rattle.query.specs.declared.Test.{Test}
 use Rattle.query.specs.Tests.{literalOf, emptySlot, testAt}
 use Rattle.asking.specs.declared.Verdict.the-variants.{Fit, Unfit}
-use Rattle.asking.specs.Refusals.{testLines, testsLines}
+use Rattle.asking.specs.Refusals.{linesFor, linesForAll}
 use Rattle.asking.specs.Verdicts.{verdictOf, unfitWith}
 use Rattle.asking.specs.Judged.{Judged}
 
@@ -41,17 +41,17 @@ pub record FitTest (file : List ℕ) (test : Test) : Type 0 where
   pub column : test .column < columnsIn file
   pub literal : tooLarge (widthIn file (test .column)) (literalOf (test .comparison)) ≡ false
 
-test-fits : (file : List ℕ) (place : ℕ) (test : Test) → firstLine (testLines file place test) ≡ none → FitTest file test
+test-fits : (file : List ℕ) (place : ℕ) (test : Test) → firstLine (linesFor file place test) ≡ none → FitTest file test
 test-fits file place test none-answers =
-    let line = each-fails (testLines file place test) (none-when-accepted (testLines file place test) none-answers) in
+    let line = each-fails (linesFor file place test) (none-when-accepted (linesFor file place test) none-answers) in
     record { column = leb-false (columnsIn file) (test .column) (line .0); literal = line .1 .0 }
 
-pub each-test-fits : (file : List ℕ) (place : ℕ) (tests : List Test) → firstLine (testsLines file place tests) ≡ none → (test : Test) →
+pub each-test-fits : (file : List ℕ) (place : ℕ) (tests : List Test) → firstLine (linesForAll file place tests) ≡ none → (test : Test) →
     test ∈ tests → FitTest file test
-unfolding testsLines
+unfolding linesForAll
 each-test-fits file place [] none-answers test m = absurd (List·Memᴰ·not-nil m)
 each-test-fits file place (next ∷ tests) none-answers test m =
-    let apart = neither-answers (testLines file place next) (testsLines file (suc place) tests) none-answers in
+    let apart = neither-answers (linesFor file place next) (linesForAll file (suc place) tests) none-answers in
     go (test-fits file place next (apart .0)) (each-test-fits file (suc place) tests (apart .1) test) (List·Memᴰ·cases-cons m)
   where
     go : FitTest file next → (test ∈ tests → FitTest file test) → (test ≡ next) ⊎ (test ∈ tests) → FitTest file test
@@ -71,42 +71,42 @@ pub unfit-is-not-fit : {refused : Refusal} → Unfit refused ≡ Fit → ⊥
 unfit-is-not-fit e = let z : _≡_ {A = ℕ} 0 1 = cc in omega arith
 
 module _ (file : List ℕ) (place : ℕ) (test : Test) where
-  pub no-such-column : columnsIn file ≤ test .column → verdictOf (firstLine (testLines file place test)) ≡ unfitWith 12 place
-  no-such-column h = ap verdictOf (stops (at-first (testLines file place test)) (le-leb (columnsIn file) (test .column) h))
+  pub no-such-column : columnsIn file ≤ test .column → verdictOf (firstLine (linesFor file place test)) ≡ unfitWith 12 place
+  no-such-column h = ap verdictOf (stops (at-first (linesFor file place test)) (le-leb (columnsIn file) (test .column) h))
 
   module _ (there : test .column < columnsIn file) where
     -- past 12, the line on the literal is left
-    past-column : Past (testLines file place test)
+    past-column : Past (linesFor file place test)
         (refuseAt 13 (tooLarge (widthIn file (test .column)) (literalOf (test .comparison))) place ∷ [])
-    past-column = passes (at-first (testLines file place test)) (lt-leb (columnsIn file) (test .column) there)
+    past-column = passes (at-first (linesFor file place test)) (lt-leb (columnsIn file) (test .column) there)
 
     pub too-large-a-literal : tooLarge (widthIn file (test .column)) (literalOf (test .comparison)) ≡ true →
-        verdictOf (firstLine (testLines file place test)) ≡ unfitWith 13 place
+        verdictOf (firstLine (linesFor file place test)) ≡ unfitWith 13 place
     too-large-a-literal large = ap verdictOf (stops past-column large)
 
     pub fit-test : tooLarge (widthIn file (test .column)) (literalOf (test .comparison)) ≡ false →
-        verdictOf (firstLine (testLines file place test)) ≡ Fit
+        verdictOf (firstLine (linesFor file place test)) ≡ Fit
     fit-test small = ap verdictOf (ends (passes past-column small))
 
 module _ {all : List Line} (file : List ℕ) (place : ℕ) (tests : List Test) (t : ℕ) (there : t < length tests)
-    (past : Past all (testsLines file place (drop t tests))) where
+    (past : Past all (linesForAll file place (drop t tests))) where
   -- the lines of the test at hand, and of those after it
-  at-test : Past all (testLines file place (testAt tests t) ++ testsLines file (suc place) (drop (suc t) tests))
-  unfolding testsLines
+  at-test : Past all (linesFor file place (testAt tests t) ++ linesForAll file (suc place) (drop (suc t) tests))
+  unfolding linesForAll
   at-test = rw (drop-cons tests t emptySlot there) at past
 
-  pub fit-goes-on : verdictOf (firstLine (testLines file place (testAt tests t))) ≡ Fit →
-      Past all (testsLines file (suc place) (drop (suc t) tests))
-  fit-goes-on fit = passes-all (testLines file place (testAt tests t)) _ at-test (fit-says _ fit)
+  pub fit-goes-on : verdictOf (firstLine (linesFor file place (testAt tests t))) ≡ Fit →
+      Past all (linesForAll file (suc place) (drop (suc t) tests))
+  fit-goes-on fit = passes-all (linesFor file place (testAt tests t)) _ at-test (fit-says _ fit)
 
-  pub unfit-answers : (refused : Refusal) → verdictOf (firstLine (testLines file place (testAt tests t))) ≡ Unfit refused →
+  pub unfit-answers : (refused : Refusal) → verdictOf (firstLine (linesFor file place (testAt tests t))) ≡ Unfit refused →
       verdictOf (firstLine all) ≡ Unfit refused
   unfit-answers refused unfit =
-      let by = unfit-says (firstLine (testLines file place (testAt tests t))) refused unfit in
-      ap verdictOf (stops-within (testLines file place (testAt tests t)) _ at-test (by .0) (by .1)) ∙ ap Unfit (by .2)
+      let by = unfit-says (firstLine (linesFor file place (testAt tests t))) refused unfit in
+      ap verdictOf (stops-within (linesFor file place (testAt tests t)) _ at-test (by .0) (by .1)) ∙ ap Unfit (by .2)
 
 pub judged : (file : List ℕ) (shape : Shape) (tests : List Test) (count : ℕ) → openedOf file ≡ Register shape → count ≤ mostTests →
-    count ≤ length tests → (place : ℕ) → firstLine (testsLines file place (take count tests)) ≡ none → Judged file shape tests count
+    count ≤ length tests → (place : ℕ) → firstLine (linesForAll file place (take count tests)) ≡ none → Judged file shape tests count
 judged file shape tests count opened few there place none-answers =
     record {
       opened = opened;

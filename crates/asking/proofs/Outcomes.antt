@@ -28,7 +28,7 @@ use Rattle.query.specs.declared.Query.{Query}
 use Rattle.query.specs.Tests.{testsOf}
 use Rattle.asking.specs.declared.Verdict.the-variants.{Fit, Unfit}
 use Rattle.asking.specs.Sizes.{unfitSize}
-use Rattle.asking.specs.Refusals.{testsLines, queryLines, askLines, askedOf}
+use Rattle.asking.specs.Refusals.{linesForAll, queryLines, askLines, askedOf}
 use Rattle.asking.specs.Verdicts.{verdictOf}
 use Rattle.asking.proofs.Judging.{fit-says, unfit-says}
 
@@ -54,7 +54,7 @@ module _ (file : List ℕ) (size : ℕ) (query : Query) where
     wrong-size h = refused-by _ (stops at-query h)
 
     module _ (right : unfitSize size ≡ false) where
-      past-size : Past (askLines file size query) (refuse 11 (ltb mostTests (query .count)) ∷ testsLines file 0 (testsOf query))
+      past-size : Past (askLines file size query) (refuse 11 (ltb mostTests (query .count)) ∷ linesForAll file 0 (testsOf query))
       unfolding queryLines
       past-size = passes at-query right
 
@@ -62,18 +62,18 @@ module _ (file : List ℕ) (size : ℕ) (query : Query) where
       too-many-tests h = refused-by _ (stops past-size (lt-ltb mostTests (query .count) h))
 
       module _ (few : query .count ≤ mostTests) where
-        past-count : Past (askLines file size query) (testsLines file 0 (testsOf query))
+        past-count : Past (askLines file size query) (linesForAll file 0 (testsOf query))
         past-count = passes past-size (le-ltb mostTests (query .count) few)
 
-        pub unfit-test : (refused : Refusal) → verdictOf (firstLine (testsLines file 0 (testsOf query))) ≡ Unfit refused →
+        pub unfit-test : (refused : Refusal) → verdictOf (firstLine (linesForAll file 0 (testsOf query))) ≡ Unfit refused →
             {r : Opened} → r ≡ Refused refused → r ≡ askedOf file size query
         unfit-test refused unfit e =
-            let by = unfit-says (firstLine (testsLines file 0 (testsOf query))) refused unfit in
+            let by = unfit-says (firstLine (linesForAll file 0 (testsOf query))) refused unfit in
             refused-by (by .0) (past-count .alike ∙ by .1) (e ∙ ap Refused (sym (by .2)))
 
-        pub fitting : verdictOf (firstLine (testsLines file 0 (testsOf query))) ≡ Fit → {r : Opened} → r ≡ Register shape →
+        pub fitting : verdictOf (firstLine (linesForAll file 0 (testsOf query))) ≡ Fit → {r : Opened} → r ≡ Register shape →
             r ≡ askedOf file size query
         unfolding askedOf
         fitting fit e =
-            let none-answers = past-count .alike ∙ fit-says (firstLine (testsLines file 0 (testsOf query))) fit in
+            let none-answers = past-count .alike ∙ fit-says (firstLine (linesForAll file 0 (testsOf query))) fit in
             rw (e, none-answers, opened-is-fit file shape opened .1)

@@ -1,7 +1,7 @@
 -- The schedule at a file and a query: its tests with the widths of their columns, and the file's bytes. Assumes nothing.
 use Prim.Native.Nat.{ℕ}
 use mathlib.Core.List.{List, map}
-use Rattle.register.specs.File.{rowsIn, widthIn}
+use Rattle.directory.specs.File.{rowsIn, widthIn}
 use Rattle.register.specs.Cells.{byteAt}
 use Rattle.query.specs.declared.Test.{Test}
 use Rattle.query.specs.declared.Query.{Query}

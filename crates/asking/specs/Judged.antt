@@ -7,7 +7,7 @@ use Rattle.limits.specs.Limits.{mostTests}
 use Rattle.codes.specs.Width.{tooLarge}
 use Rattle.register.specs.declared.Shape.{Shape}
 use Rattle.register.specs.declared.Opened.the-variants.{Register}
-use Rattle.register.specs.File.{widthIn}
+use Rattle.directory.specs.File.{widthIn}
 use Rattle.register.specs.Opening.{openedOf}
 use Rattle.query.specs.declared.Test.{Test}
 use Rattle.query.specs.declared.Query.{Query}

@@ -8,7 +8,7 @@ use Rattle.answers.specs.Answers.{refusal}
 use Rattle.codes.specs.Width.{tooLarge}
 use Rattle.register.specs.declared.Opened.{Opened}
 use Rattle.register.specs.declared.Opened.the-variants.{Register, Refused}
-use Rattle.register.specs.File.{rowsIn, columnsIn, widthIn}
+use Rattle.directory.specs.File.{rowsIn, columnsIn, widthIn}
 use Rattle.register.specs.Opening.{openLines}
 use Rattle.query.specs.declared.Test.{Test}
 use Rattle.query.specs.declared.Query.{Query}
@@ -16,21 +16,21 @@ use Rattle.query.specs.Tests.{literalOf, testsOf}
 use Rattle.asking.specs.Sizes.{unfitSize}
 
 -- a test under its number: 12, no such column; 13, a literal too large for its column; place: that number
-abbrev pub testLines : List ℕ → ℕ → Test → List Line
-testLines file place test =
+abbrev pub linesFor : List ℕ → ℕ → Test → List Line
+linesFor file place test =
     refuseAt 12 (leb (columnsIn file) (test .column)) place
     ∷ refuseAt 13 (tooLarge (widthIn file (test .column)) (literalOf (test .comparison))) place
     ∷ []
 
 -- each test in turn, numbered on from any place
-unfoldable pub testsLines : List ℕ → ℕ → List Test → List Line
-testsLines file place [] = []
-testsLines file place (test ∷ tests) = testLines file place test ++ testsLines file (suc place) tests
+unfoldable pub linesForAll : List ℕ → ℕ → List Test → List Line
+linesForAll file place [] = []
+linesForAll file place (test ∷ tests) = linesFor file place test ++ linesForAll file (suc place) tests
 
 module _ (file : List ℕ) (size : ℕ) (query : Query) where
   -- 14: segment size; 11: too many tests; the tests
   unfoldable pub queryLines : List Line
-  queryLines = refuse 14 (unfitSize size) ∷ refuse 11 (ltb mostTests (query .count)) ∷ testsLines file 0 (testsOf query)
+  queryLines = refuse 14 (unfitSize size) ∷ refuse 11 (ltb mostTests (query .count)) ∷ linesForAll file 0 (testsOf query)
 
   -- the file is opened first
   abbrev pub askLines : List Line

@@ -19,7 +19,7 @@ ghost use Rattle.register.specs.Opening.{openedOf};
 ghost use Rattle.register.specs.Answers.{refusedWith};
 ghost use Rattle.asking.specs.declared.Verdict.the-variants.{Fit};
 ghost use Rattle.asking.specs.Sizes.{unfitSize};
-ghost use Rattle.asking.specs.Refusals.{testLines, testsLines, askedOf};
+ghost use Rattle.asking.specs.Refusals.{linesFor, linesForAll, askedOf};
 ghost use Rattle.asking.specs.Verdicts.{verdictOf, unfitWith};
 ghost use Rattle.asking.specs.Judged.{Judged};
 
@@ -77,7 +77,7 @@ pub fn unfit_size(size: usize) -> bool
 // Holds the tests to an opened file in turn, and ends at the first that does not fit.
 pub fn judge_tests(file: &[u8], shape: Shape, tests: [Test; MOST_TESTS], count: usize) -> Verdict
     requires { ⌜ (openedOf (now file) ≡ Register shape) × (count ≤ mostTests) ⌝ }
-    ensures verdict { λ r. ⌜ r ≡ verdictOf (firstLine (testsLines (now (file .entry)) 0 (take count tests))) ⌝ }
+    ensures verdict { λ r. ⌜ r ≡ verdictOf (firstLine (linesForAll (now (file .entry)) 0 (take count tests))) ⌝ }
     ensures fit { λ r. ⌜ (r ≡ Fit → Judged (now (file .entry)) shape tests count) ⌝ }
 {
     let mut t = 0;
@@ -95,7 +95,7 @@ pub fn judge_tests(file: &[u8], shape: Shape, tests: [Test; MOST_TESTS], count: 
 // Holds a test to an opened file, under its place: first by its column, then by its literal.
 pub fn judge_test(file: &[u8], shape: Shape, test: Test, place: usize) -> Verdict
     requires { ⌜ openedOf (now file) ≡ Register shape ⌝ }
-    ensures { λ r. ⌜ r ≡ verdictOf (firstLine (testLines (now (file .entry)) place test)) ⌝ }
+    ensures { λ r. ⌜ r ≡ verdictOf (firstLine (linesFor (now (file .entry)) place test)) ⌝ }
 {
     let column = test.column;
     if shape.columns <= column {

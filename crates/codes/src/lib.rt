@@ -56,13 +56,6 @@ pub fn byte_of(width: u8, code: u64, slice: usize) -> u8
     (rest % 256) as u8
 }
 
-// A byte as a number, which is then known to be small.
-pub fn wide(byte: u8) -> u64
-    ensures { λ r. ⌜ (r ≡ byte) × (r < 256) ⌝ }
-{
-    byte as u64
-}
-
 // The code of a row's bytes, slice 1 first. Pad bits are ignored.
 pub fn join(width: u8, bytes: &[u8]) -> u64
     requires { ⌜ (width ≤ widest) × (length (now bytes) ≡ slicesOf width) ⌝ }
@@ -71,7 +64,7 @@ pub fn join(width: u8, bytes: &[u8]) -> u64
     let mut number: u64 = 0;
     let mut i = 0;
     while i < bytes.len() {
-        number = number * 256 + wide(bytes[i]);
+        number = number * 256 + numbers::wide64(bytes[i]);
         i = i + 1;
     }
     number / unit_of(width)

@@ -6,14 +6,17 @@
 --   too-large        where it is not, there is none, however it goes on
 --   number-ends      a byte that is no digit ends the number, if it is the one that must follow
 --   text-ends        at the end of the text there is none
+--   must-end         a number that no digit more has room behind ends, whatever stands there
 --   leading-zero     nor where another byte than the one that must follow comes after a 0
 --   zero-ends        0, if the byte that must follow comes next
 --   no-digit         no number begins with a byte that is no digit
-use Prim.Native.Nat.{ℕ, _+_, _*_, _<_, _≤_}
+use Prim.Native.Nat.{ℕ, _+_, _-_, _*_, _<_, _≤_}
 use native.Mathlib.Omega.{arith}
 use mathlib.Core.Path.{_≡_, refl, sym, ap, ap₂, subst, _∙_}
+use mathlib.Core.Logic.{⊎-elim}
 use mathlib.Core.List.{List, [], _∷_, _++_, append-assoc}
-use lib.ListN.{length, getD, drop, length-append, drop-of-length-le, List·getD-append}
+use lib.ListN.{length, getD, drop, length-append, drop-of-length-le, List·getD-append, List·getD-eq-default}
+use Rattle.basis.proofs.Runs.{within-or-past}
 use Rattle.decimals.specs.declared.After.{After}
 use Rattle.decimals.specs.declared.After.the-variants.{Space, LineFeed}
 use Rattle.decimals.specs.declared.Number.{Number}
@@ -35,7 +38,7 @@ use Rattle.decimals.proofs.Decimals.{
   same-decimal,
   begun-decimal,
 }
-use Rattle.decimals.proofs.Places.{byte-then, byte-stands, byte-further, by-byte}
+use Rattle.decimals.proofs.Places.{byte-within, byte-then, byte-stands, byte-further, by-byte}
 
 -- the byte that must follow is no digit, nor 0
 after-low : (after : After) → (0 < afterByte after) × (afterByte after < 48)
@@ -127,6 +130,27 @@ module _ {limit : ℕ} (bound : limit ≤ room) where
         let longer = begun-decimal (decimal number) other digits (omega arith) (after-no-digit after) (sym (so-far .spells) ∙ e) in
         let none = simp length-append at (ap length (sym (drop-of-length-le text past) ∙ longer .2)) in
         omega (arith, none)
+
+    pub must-end : limit ≤ number * 10 → {read : Number} → read ≡ endedBy after (getD text at 0) number (at + 1) →
+        NumberAt limit text from after read
+    must-end full said =
+        let byte = getD text at 0 in
+        let other = by-byte (NumberAt limit text from after) byte (afterByte after) said in
+        ⊎-elim
+        (λ (low : byte < 48).
+        ⊎-elim
+        (λ (inside : at < length text). number-ends inside (λ d. omega arith) said)
+        (λ (past : length text ≤ at).
+        other (λ is. absurd (omega (arith, after-low after .0, List·getD-eq-default text 0 past))) (λ _. text-ends past))
+        (within-or-past at (length text)))
+        (λ (high : 48 ≤ byte).
+        ⊎-elim
+        (λ (digit-here : byte < 58).
+        other (λ is. absurd (omega (arith, after-low after .1)))
+        (λ _. too-large text at {d = byte - 48} (omega arith) (omega arith) so-far after (omega arith)))
+        (λ (no : 58 ≤ byte). number-ends (byte-within text at byte refl (omega arith)) (λ d. omega arith) said)
+        (within-or-past byte 58))
+        (within-or-past byte 48)
 
   module _ (text : List ℕ) (at : ℕ) (after : After) where
     -- the byte with which a decimal at the place begins

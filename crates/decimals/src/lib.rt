@@ -28,7 +28,7 @@ pub fn read_number(text: &[u8], at: usize, after: After, most: u64) -> Number
     match first {
         b'0' => ended(after, byte_at(text, at + 1), 0, at + 2),
         b'1'..=b'9' => {
-            let begun = wide(first) - 48;
+            let begun = numbers::wide64(first) - 48;
             if most < begun {
                 return Number::NoNumber;
             }
@@ -39,8 +39,9 @@ pub fn read_number(text: &[u8], at: usize, after: After, most: u64) -> Number
 }
 
 // Goes on with a decimal whose first digit is not 0: its further digits, and the byte that must follow
-// them. Whether a digit still has room is told before it is taken in. It ends since each turn leaves
-// less of the text.
+// them. Below a tenth of the greatest number every digit has room; of one that is not, whether it has
+// room is told before it is taken in, and no digit comes after it. It ends since each turn leaves less of
+// the text.
 fn read_digits(text: &[u8], from: usize, after: After, begun: u64, most: u64) -> Number
     requires { ⌜ (getD (now text) from 0 ≡ digit begun) × (0 < begun) × (begun < 10) × (begun ≤ most) ⌝ }
     ensures { λ r. ⌜ NumberAt (most + 1) (now (text .entry)) from after r ⌝ }
@@ -51,9 +52,12 @@ fn read_digits(text: &[u8], from: usize, after: After, begun: u64, most: u64) ->
         let byte = text[at];
         match byte {
             b'0'..=b'9' => {
-                let digit = wide(byte) - 48;
-                if !has_room(number, digit, most) {
-                    return Number::NoNumber;
+                let digit = numbers::wide64(byte) - 48;
+                if most / 10 <= number {
+                    if !has_room(number, digit, most) {
+                        return Number::NoNumber;
+                    }
+                    return ended(after, byte_at(text, at + 1), number * 10 + digit, at + 2);
                 }
                 number = number * 10 + digit;
                 at = at + 1;
@@ -64,16 +68,11 @@ fn read_digits(text: &[u8], from: usize, after: After, begun: u64, most: u64) ->
     Number::NoNumber
 }
 
-// Whether a number with one digit more is at most the given one. Below a tenth of it every digit has
-// room, which is all that most digits ask; else ten times the number is at most the given one, and what
-// is then left is no less than the digit.
+// Whether a number with one digit more is at most the given one: ten times the number is, and what is
+// then left is no less than the digit.
 fn has_room(number: u64, digit: u64, most: u64) -> bool
-    requires { ⌜ digit < 10 ⌝ }
     ensures { λ r. ⌜ r ≡ leb (number * 10 + digit) most ⌝ }
 {
-    if number < most / 10 {
-        return true;
-    }
     number <= most / 10 && digit <= most - number * 10
 }
 
@@ -98,10 +97,4 @@ pub fn byte_at(text: &[u8], at: usize) -> u8
     ensures { λ r. ⌜ r ≡ getD (now (text .entry)) at 0 ⌝ }
 {
     if at < text.len() { text[at] } else { 0 }
-}
-
-fn wide(x: u8) -> u64
-    ensures { λ r. ⌜ (r ≡ x) × (r < 256) ⌝ }
-{
-    x as u64
 }

@@ -14,7 +14,7 @@ use scan::Scanned;
 ghost use mathlib.Core.Path.{_≡_};
 ghost use lib.ListN.{length};
 ghost use Rattle.register.specs.Opening as opening;
-ghost use Rattle.register.specs.Widths as measuring;
+ghost use Rattle.widths.specs.Widths as measuring;
 ghost use Rattle.writer.specs.Writing as writing;
 ghost use Rattle.lookup.specs.LookingUp as looking;
 ghost use Rattle.rows.specs.RowList as listing;
@@ -35,7 +35,7 @@ pub extern "C" fn bsl_widths(file: &[u8], out: &mut [u8], reply: &mut [u64; ANSW
     ensures reply { λ _. ⌜ now (reply .exit) ≡ measuring.shownFor (now (file .entry)) (length (now (out .entry))) ⌝ }
     ensures left { λ _. ⌜ now (out .exit) ≡ measuring.leftIn (now (file .entry)) (now (out .entry)) ⌝ }
 {
-    let measured = register::widths(file, out);
+    let measured = widths::widths(file, out);
     *reply = answer_reply(measured);
 }
 

@@ -1,3 +1,2 @@
--- What reading an input whole answers, and what one write does.
+-- What reading an input whole answers.
 pub mod Taking
-pub mod Putting

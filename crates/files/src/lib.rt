@@ -1,9 +1,5 @@
-// What the programs ask of the operating system: an input read whole into a lent buffer, a descriptor's or a file's by
-// its name, and bytes written to the last. The contracts say how much of the buffer an answer counts. Which bytes stand
-// there, and which arrive, is the operating system's word, and is not promised.
-mod putting;
-
-pub use putting::put_all;
+// An input read whole into a lent buffer, a descriptor's or a file's by its name. The contracts say how much of the buffer an
+// answer counts. Which bytes stand there is the operating system's word, and is not promised.
 ghost use mathlib.Core.Path.{_≡_};
 ghost use Prim.Native.Nat.{_+_, _≤_};
 ghost use lib.Dec.{eqb};

@@ -14,7 +14,7 @@ use Rattle.basis.proofs.Buffers.{laid-front}
 use Rattle.basis.proofs.Those.{length-those}
 use Rattle.answers.specs.declared.Answer.the-variants.{Elements}
 use Rattle.answers.specs.Answers.{answerOf}
-use Rattle.register.specs.File.{rowsIn}
+use Rattle.directory.specs.File.{rowsIn}
 use Rattle.register.proofs.Fit.{opened-is-fit}
 use Rattle.query.specs.declared.Query.{Query}
 use Rattle.schedule.specs.Schedule.{found, matches}

@@ -3,7 +3,7 @@ use Prim.Native.Nat.{ℕ}
 use mathlib.Core.List.{List, [], _∷_, _++_, map, flatten}
 use Rattle.basis.specs.Lists.{below}
 use Rattle.answers.specs.declared.Refusal.{Refusal}
-use Rattle.register.specs.File.{columnsIn}
+use Rattle.directory.specs.File.{columnsIn}
 use Rattle.register.specs.Cells.{codeAt}
 use Rattle.decimals.specs.Decimals.{decimal, space, lineFeed}
 

@@ -86,7 +86,7 @@ fn put_cells(out: &mut [u8], from: usize, at: usize, file: &[u8], shape: Shape, 
     let mut next = at;
     let mut column = 0;
     while column < columns {
-        next = put_cell(out, from, next, lookup::code_at(file, shape, column, row));
+        next = put_cell(out, from, next, cells::code_at(file, shape, column, row));
         column = column + 1;
     }
     next

@@ -22,12 +22,14 @@ use Rattle.bits.specs.Marked.{markedBelow}
 use Rattle.pieces.specs.Pieces.{Wrote, PieceWritten}
 use Rattle.pieces.proofs.WholePiece.{whole-piece}
 use Rattle.lines.specs.Lines.{headLine, refusedLine}
-use Rattle.register.proofs.Fit.{rows-as-opened, columns-as-opened}
-use Rattle.listing.specs.declared.Found.{Found}
-use Rattle.listing.specs.Listing.{scanFor, testLines, rowLines, answerLines, refusedOr, listingOf, Listed}
-use Rattle.listing.specs.Found.{refusalFor, FoundBy, FoundIn, Listable, foundLines}
+use Rattle.scan.proofs.Accepting.{opens}
+use Rattle.finding.specs.declared.Found.{Found}
+use Rattle.finding.specs.Finding.{scanFor, refusalFor, acceptedFound, FoundBy, FoundIn}
+use Rattle.listing.specs.Listing.{answerLines, refusedOr, listingOf, Listed}
+use Rattle.sections.specs.Sections.{testLines, rowLines}
+use Rattle.listing.specs.Found.{Listable, foundLines}
 use Rattle.listing.proofs.FoundLines.{reads-small, columns-below}
-use Rattle.listing.proofs.Outcomes.{accepted-scan}
+use Rattle.finding.proofs.Outcomes.{accepted-scan, same-refusal, found-accepted}
 
 pub piece-written : {from : ℕ} {list before after : List ℕ} {answer : ℕ} → Wrote from 0 list before after answer →
     PieceWritten list from before after answer
@@ -68,16 +70,24 @@ same-lines refusal lines more same = go (eqb (refusal .number) 0) refl
     go true e = rw e (same (eqb-true (refusal .number) 0 e))
     go false e = rw e
 
-module _ (file : List ℕ) (asked : Asked) (bits : List ℕ) (found : Found) (made : FoundBy file asked bits found) where
+module _ (file : List ℕ) (asked : Asked) (before bits : List ℕ) (found : Found) (made : FoundBy file asked before bits found) where
+  -- the refusal is the listing's; where it has no number, what is found is the scan's
+  refusal-is : found .refusal ≡ refusalFor file asked
+  refusal-is = ap (λ (f : Found). f .refusal) (made .answer) ∙ same-refusal file asked
+
+  none-refused : found .refusal .number ≡ 0 → refusalFor file asked .number ≡ 0
+  none-refused none = sym (ap (λ (r : Refusal). r .number) refusal-is) ∙ none
+
+  found-is : found .refusal .number ≡ 0 → found ≡ acceptedFound file asked
+  found-is none = made .answer ∙ found-accepted file asked (none-refused none)
+
   pub same-listing : foundLines file bits found ≡ listingOf file asked
   unfolding foundLines listingOf answerLines
   same-listing =
       let answer = answerLines file (asked .query) (scanFor file asked) in
       same-lines (found .refusal) (accepted file bits found) answer
-      (λ none.
-      let rows = made .rows none in
-      rw (rows .rows, rows-as-opened file (found .shape) (rows .opened), rows .matches, rows .counts, rows .query))
-      ∙ ap (λ (r : Refusal). refusedOr r answer) (made .refusal)
+      (λ none. rw (found-is none, made .rows (none-refused none)))
+      ∙ ap (λ (r : Refusal). refusedOr r answer) refusal-is
       ∙ sym (first-told (asked .refusal) (scanFor file asked .refusal) answer)
 
   -- what was not refused was not refused by the scan
@@ -90,13 +100,13 @@ module _ (file : List ℕ) (asked : Asked) (bits : List ℕ) (found : Found) (ma
 
   pub can-be-listed : {text : List ℕ} → Reads text asked → Listable file found
   can-be-listed reads none =
-      let rows = made .rows none in
       let small = reads-small reads in
-      let passed = accepted-scan file asked (scan-passed (rw (made .refusal) at none)) in
+      let passed = accepted-scan file asked (scan-passed (none-refused none)) in
       let columns = columns-below file (asked .size) (asked .query) (bytesFor mostRows) passed (small .0) (small .1) in
-      (rows .opened, rw (rows .query) (small .0), rw (rows .query, columns-as-opened file (found .shape) (rows .opened)) columns)
+      rw (found-is none) (opens file (asked .size) (asked .query) (bytesFor mostRows) passed, small .0, columns)
 
-pub listed-in : (file text bits : List ℕ) (found : Found) → FoundIn file text bits found → (from : ℕ) (before : List ℕ) {after : List ℕ}
-    {answer : ℕ} → PieceWritten (foundLines file bits found) from before after answer → Listed file text from before after answer
-listed-in file text bits found made from before piece =
-    (made .0, (made .1 .0, rw (same-listing file (made .0) bits found (made .1 .1)) at piece))
+pub listed-in : (file text filled bits : List ℕ) (found : Found) → FoundIn file text filled bits found → (from : ℕ) (before : List ℕ)
+    {after : List ℕ} {answer : ℕ} → PieceWritten (foundLines file bits found) from before after answer →
+    Listed file text from before after answer
+listed-in file text filled bits found made from before piece =
+    (made .0, (made .1 .0, rw (same-listing file (made .0) filled bits found (made .1 .1)) at piece))

@@ -1,17 +1,15 @@
--- The promises of the listing admit one answer and one content of the buffer, and what is found has one listing. Assumes nothing.
+-- The promises of the listing admit one answer and one content of the buffer. Assumes nothing.
 --   one-listing           of a file and a text
 --   one-print             of inputs that were taken or not
---   one-found             of what is found of a file and a text
---   one-found-read        of what is found of inputs
+--   one-found-read        of what is found of inputs, and of the bits
 --   one-write             `write`, by its own promise
 --   one-write-of-inputs   `write_read`, by its own promise
---   one-find              `find`, by its own promise
 --   one-prepare           `prepare`, by its own promise
 --   one-write-of-found    `write_found`, by its own promise
 -- A call's own promise is its `ensures` as the check reads it: of the lifetimes κs, of what is lent, of the answer, and of what was
 -- lent as it stands at exit, the buffer last.
 use Prim.Native.Nat.{ℕ}
-use mathlib.Core.Path.{_≡_, refl, sym, ap, _∙_}
+use mathlib.Core.Path.{_≡_, refl, sym, _∙_}
 use mathlib.Core.List.{List}
 use mathlib.Core.Bool.{Bool, true, false}
 use lib.ListN.{length}
@@ -20,14 +18,12 @@ use Rattle.text.proofs.SingleReply.{single-reply}
 use Rattle.pieces.specs.Pieces.{PieceWritten}
 use Rattle.lines.specs.Lines.{refusedLine}
 use Rattle.listing.specs.Listing.{listingOf, Listed}
-use Rattle.listing.specs.declared.Found.{Found}
-use Rattle.listing.specs.Found.{FoundIn, foundLines}
+use Rattle.finding.specs.declared.Found.{Found}
+use Rattle.listing.specs.Found.{foundLines}
 use Rattle.listing.specs.Inputs.{refusal18, unreadInputs, FoundRead, ListedRead}
-use Rattle.listing.proofs.FoundListing.{same-listing}
-use Rattle.listing.proofs.Inputs.{told-18}
 use Rattle.listing.proofs.write.Reads.{Post as Writes}
 use Rattle.listing.proofs.write_read.Reads.{Post as WritesInputs}
-use Rattle.listing.proofs.find.Reads.{Post as Finds}
+use Rattle.finding.proofs.SingleReply.{one-found}
 use Rattle.listing.proofs.prepare.Reads.{Post as Prepares}
 use Rattle.listing.proofs.write_found.Reads.{Post as WritesFound}
 
@@ -48,21 +44,14 @@ module _ (file text : List ℕ) (from : ℕ) (before after other : List ℕ) (an
   one-print true first second = one-piece (refusedLine refusal18) from before first second
   one-print false first second = one-listing first second
 
-module _ (file text bits more : List ℕ) (found again : Found) where
-  -- what is listed of the two is the same
-  abbrev Same : Type 0
-  Same = foundLines file bits found ≡ foundLines file more again
-
-  pub one-found : FoundIn file text bits found → FoundIn file text more again → Same
-  one-found first second =
-      same-listing file (first .0) bits found (first .1 .1)
-      ∙ ap (listingOf file) (single-reply (first .1 .0) (second .1 .0))
-      ∙ sym (same-listing file (second .0) more again (second .1 .1))
-
-  pub one-found-read : (unread : Bool) → FoundRead unread file text bits found → FoundRead unread file text more again → Same
+module _ (file text before : List ℕ) {after other : List ℕ} {found again : Found} where
+  pub one-found-read : (unread : Bool) → FoundRead unread file text before after found → FoundRead unread file text before other again →
+      (found ≡ again) × (after ≡ other)
   one-found-read true first second =
-      told-18 file text bits found (first .refused refl) ∙ sym (told-18 file text more again (second .refused refl))
-  one-found-read false first second = one-found (first .listed refl) (second .listed refl)
+      let told = first .refused refl in
+      let repeated = second .refused refl in
+      (told .0 ∙ sym (repeated .0), told .1 ∙ sym (repeated .1))
+  one-found-read false first second = one-found file text before (first .listed refl) (second .listed refl)
 
 pub one-write : (κs : _) (lent : _) (answer number : ℕ) (exit exit′ : _) →
     Writes κs lent answer exit → Writes κs lent number exit′ → (now (exit .1 .1 .1 .0) ≡ now (exit′ .1 .1 .1 .0)) × (answer ≡ number)
@@ -77,13 +66,9 @@ one-write-of-inputs κs lent answer number exit exit′ first second =
     let unread = unreadInputs (lent .0) (length file) (lent .1 .1 .0) (length text) in
     one-print file text _ _ _ _ answer number unread first second
 
-pub one-find : (κs : _) (lent : _) (found again : Found) (exit exit′ : _) → Finds κs lent found exit → Finds κs lent again exit′ →
-    foundLines (now (lent .0)) (now (exit .1 .1 .0)) found ≡ foundLines (now (lent .0)) (now (exit′ .1 .1 .0)) again
-one-find κs lent found again exit exit′ first second = one-found _ _ _ _ _ _ first second
-
 pub one-prepare : (κs : _) (lent : _) (found again : Found) (exit exit′ : _) → Prepares κs lent found exit → Prepares κs lent again exit′ →
-    foundLines (now (lent .1 .0)) (now (exit .1 .1 .1 .1 .0)) found ≡ foundLines (now (lent .1 .0)) (now (exit′ .1 .1 .1 .1 .0)) again
-one-prepare κs lent found again exit exit′ first second = one-found-read _ _ _ _ _ _ _ first second
+    (found ≡ again) × (now (exit .1 .1 .1 .1 .0) ≡ now (exit′ .1 .1 .1 .1 .0))
+one-prepare κs lent found again exit exit′ first second = one-found-read _ _ _ _ first second
 
 pub one-write-of-found : (κs : _) (lent : _) (answer number : ℕ) (exit exit′ : _) → WritesFound κs lent answer exit →
     WritesFound κs lent number exit′ → (now (exit .1 .1 .1 .1 .0) ≡ now (exit′ .1 .1 .1 .1 .0)) × (answer ≡ number)

@@ -11,9 +11,9 @@ use Rattle.text.specs.declared.Asked.{Asked}
 use Rattle.text.specs.Reading.{Reads}
 use Rattle.pieces.specs.Pieces.{PieceWritten}
 use Rattle.lines.specs.Lines.{refusedLine}
-use Rattle.listing.specs.declared.Found.{Found}
+use Rattle.finding.specs.declared.Found.{Found}
 use Rattle.listing.specs.Listing.{listingOf, Listed}
-use Rattle.listing.specs.Found.{FoundIn}
+use Rattle.finding.specs.Finding.{refusedFound, FoundIn}
 
 -- an input that could not be read, or is over its limit
 abbrev pub unreadInput : Bool → ℕ → ℕ → Bool
@@ -27,10 +27,10 @@ refusal18 = record { number = 18; place = 0; need = 0 }
 abbrev pub unreadInputs : Bool → ℕ → Bool → ℕ → Bool
 unreadInputs taken file given text = unreadInput taken file mostFile || unreadInput given text mostText
 
--- what is found of inputs: 18 where one is not taken, or what the listing shows
-pub record FoundRead (unread : Bool) (file text bits : List ℕ) (found : Found) : Type 0 where
-  pub refused : unread ≡ true → found .refusal ≡ refusal18
-  pub listed : unread ≡ false → FoundIn file text bits found
+-- what is found of inputs: 18 where one is not taken, and then the bits are as they were, or what the listing shows
+pub record FoundRead (unread : Bool) (file text before after : List ℕ) (found : Found) : Type 0 where
+  pub refused : unread ≡ true → (found ≡ refusedFound refusal18) × (after ≡ before)
+  pub listed : unread ≡ false → FoundIn file text before after found
 
 -- a piece of what is printed: the line of 18 where an input is not taken, or the listing
 abbrev pub ListedRead : Bool → List ℕ → List ℕ → ℕ → List ℕ → List ℕ → ℕ → Type 0

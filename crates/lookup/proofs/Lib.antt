@@ -1,4 +1,3 @@
 -- The laws of looking up.
-pub mod Rows
 pub mod LookingUp
 pub mod SingleReply

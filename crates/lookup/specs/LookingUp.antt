@@ -7,7 +7,7 @@ use Rattle.basis.specs.Places.{firstPlace}
 use Rattle.basis.specs.Refusals.{Line, refuse, refuseAt, refuseFor}
 use Rattle.answers.specs.declared.Answer.{Answer}
 use Rattle.answers.specs.Answers as answers
-use Rattle.register.specs.File.{rowsIn, columnsIn}
+use Rattle.directory.specs.File.{rowsIn, columnsIn}
 use Rattle.register.specs.Cells.{codeAt}
 use Rattle.register.specs.Opening.{openLines}
 

@@ -1,9 +1,7 @@
--- What a step of the lookup may rely on, and what it gathers. Assumes nothing.
-use Prim.Native.Nat.{ℕ, _+_, _*_, _<_, _≤_}
-use mathlib.Core.List.{List, map}
+-- What the steps of the lookup say of the numbers of a list. Assumes nothing.
+use Prim.Native.Nat.{ℕ, _<_, _≤_}
+use mathlib.Core.List.{List}
 use lib.ListN.{length, getD}
-use Rattle.basis.specs.Lists.{below}
-use Rattle.codes.specs.Width.{slicesOf}
 
 -- every listed number is below a bound
 abbrev pub AllBelow : ℕ → List ℕ → Type 0
@@ -12,15 +10,3 @@ AllBelow bound list = (i : ℕ) → i < length list → getD list i 0 < bound
 -- no listed number is above a bound
 abbrev pub NoneAbove : ℕ → List ℕ → Type 0
 NoneAbove bound list = (i : ℕ) → i < length list → getD list i 0 ≤ bound
-
--- where a row's byte stands in a slice of a column that starts at the offset
-abbrev pub place : ℕ → ℕ → ℕ → ℕ → ℕ
-place offset rows row slice = offset + slice * rows + row
-
--- the row's byte of every slice stands in the file
-abbrev pub RowWithin : List ℕ → ℕ → ℕ → ℕ → ℕ → Type 0
-RowWithin file width offset rows row = (slice : ℕ) → slice < slicesOf width → place offset rows row slice < length file
-
--- the row's bytes, slice 1 first
-abbrev pub gathered : List ℕ → ℕ → ℕ → ℕ → ℕ → List ℕ
-gathered file width offset rows row = map (λ slice. getD file (place offset rows row slice) 0) (below (slicesOf width))

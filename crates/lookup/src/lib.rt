@@ -5,15 +5,12 @@ use register::Opened;
 use register::Shape;
 ghost use mathlib.Core.Path.{_≡_};
 ghost use Prim.Native.Nat.{_<_, _≤_};
-ghost use lib.ListN.{length, getD};
+ghost use lib.ListN.{length};
 ghost use Rattle.basis.specs.Buffers.{laid};
 ghost use Rattle.answers.specs.Answers.{shownOf};
 ghost use Rattle.register.specs.declared.Opened.the-variants.{Register};
 ghost use Rattle.register.specs.Opening.{openedOf};
-ghost use Rattle.register.specs.Cells.{codeAt};
-ghost use Rattle.limits.specs.Limits.{widest};
-ghost use Rattle.codes.specs.Bytes.{joined};
-ghost use Rattle.lookup.specs.Steps.{AllBelow, NoneAbove, RowWithin, place, gathered};
+ghost use Rattle.lookup.specs.Steps.{AllBelow, NoneAbove};
 ghost use Rattle.lookup.specs.LookingUp.{firstMissing, codesOf, lookedUpOf, shownFor, leftIn};
 
 // Writes the code that each listed row has in a column to the front of `out`. Refused, it changes
@@ -98,48 +95,7 @@ fn write_codes(file: &[u8], shape: Shape, column: usize, list: &[u32], out: &mut
     let rows = shape.rows;
     let mut i = 0;
     while i < list.len() {
-        out[i] = code_of(file, width, offset, rows, wide(list[i]));
+        out[i] = cells::code_of(file, width, offset, rows, wide(list[i]));
         i = i + 1;
     }
-}
-
-// The code of a row in a column of a file that opened as the shape.
-pub fn code_at(file: &[u8], shape: Shape, column: usize, row: usize) -> u64
-    requires { ⌜ (openedOf (now file) ≡ Register shape) × (column < shape .columns) × (row < shape .rows) ⌝ }
-    ensures { λ r. ⌜ r ≡ codeAt (now (file .entry)) column row ⌝ }
-{
-    let width = register::width_at(file, shape, column);
-    let offset = register::offset_at(file, shape, column);
-    code_of(file, width, offset, shape.rows, row)
-}
-
-// The code of a row: its bytes are gathered from the slices of a column that starts at the offset. Each
-// number of slices is a case of its own, so that the bytes need no memory on their way.
-fn code_of(file: &[u8], width: u8, offset: usize, rows: usize, row: usize) -> u64
-    requires { ⌜ (0 < width) × (width ≤ widest) × RowWithin (now file) width offset rows row ⌝ }
-    ensures { λ r. ⌜ r ≡ joined width (gathered (now (file .entry)) width offset rows row) ⌝ }
-{
-    let slices = codes::slices_of(width);
-    let first = byte_at(file, offset, rows, row, 0);
-    if slices == 1 {
-        return codes::join(width, &[first]);
-    }
-    let second = byte_at(file, offset, rows, row, 1);
-    if slices == 2 {
-        return codes::join(width, &[first, second]);
-    }
-    let third = byte_at(file, offset, rows, row, 2);
-    if slices == 3 {
-        return codes::join(width, &[first, second, third]);
-    }
-    let fourth = byte_at(file, offset, rows, row, 3);
-    codes::join(width, &[first, second, third, fourth])
-}
-
-// The byte of a row in a slice, counted from 0, of a column that starts at the offset.
-fn byte_at(file: &[u8], offset: usize, rows: usize, row: usize, slice: usize) -> u8
-    requires { ⌜ place offset rows row slice < length (now file) ⌝ }
-    ensures { λ r. ⌜ r ≡ getD (now (file .entry)) (place offset rows row slice) 0 ⌝ }
-{
-    file[offset + slice * rows + row]
 }

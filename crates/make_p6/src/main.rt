@@ -32,7 +32,7 @@ fn main() {
     let Answer::Elements(bytes) = writer::write(10, &widths, &codes, &mut out) else {
         return;
     };
-    if files::put_all(STDOUT_FILENO, &out) < bytes {
+    if putting::put_all(STDOUT_FILENO, &out) < bytes {
         os::fail(b"make_p6: the file is not whole");
         return;
     }

@@ -25,7 +25,7 @@ fn print_register(widths: &[u8], codes: &mut [u64], out: &mut [u8]) {
     let Answer::Elements(bytes) = writer::write(ROWS, widths, codes, out) else {
         return;
     };
-    if files::put_all(STDOUT_FILENO, out) < bytes {
+    if putting::put_all(STDOUT_FILENO, out) < bytes {
         os::fail(b"make_recall: the file is not whole");
         return;
     }

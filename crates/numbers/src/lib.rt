@@ -4,11 +4,17 @@ ghost use Prim.Native.Nat.{_^_, _≤_, _<_, min};
 ghost use lib.ListN.{length};
 ghost use Rattle.basis.specs.Numbers.{little};
 
-// A byte as a number, which is then known to be small.
+// A byte as a number, which is then known to be small, of either type.
 pub fn wide(byte: u8) -> usize
     ensures { λ r. ⌜ (r ≡ byte) × (r < 256) ⌝ }
 {
     byte as usize
+}
+
+pub fn wide64(byte: u8) -> u64
+    ensures { λ r. ⌜ (r ≡ byte) × (r < 256) ⌝ }
+{
+    byte as u64
 }
 
 pub fn least(a: usize, b: usize) -> usize

@@ -9,13 +9,13 @@ use mathlib.Core.List.{List}
 use lib.ListN.{length}
 use Rattle.basis.proofs.Lists.{sum-grows}
 use Rattle.codes.specs.Width.{slicesOf}
-use Rattle.register.specs.Layout.{slicesBefore}
-use Rattle.register.specs.File.{rowsIn, columnsIn, directoryIn, widthIn, offsetIn}
+use Rattle.directory.specs.Layout.{slicesBefore}
+use Rattle.directory.specs.File.{rowsIn, columnsIn, directoryIn, widthIn, offsetIn}
 use Rattle.register.specs.declared.Shape.{Shape}
 use Rattle.register.specs.declared.Opened.the-variants.{Register}
 use Rattle.register.specs.Opening.{openedOf}
 use Rattle.register.proofs.Fit.{Fit, opened-is-fit, rows-as-opened, columns-as-opened}
-use Rattle.register.proofs.Directory.{fit-column, one-more-column}
+use Rattle.directory.proofs.Entries.{fit-column, one-more-column}
 
 -- so many slices, and a row of one more, are within that many slices and one more
 within-slices : (rows slices slice row : ℕ) → row < rows → suc slice ≤ slices → slice * rows + row < rows * slices

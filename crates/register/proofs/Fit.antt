@@ -27,11 +27,11 @@ use Rattle.codes.proofs.Width.{few-slices-of}
 use Rattle.register.specs.declared.Shape.{Shape}
 use Rattle.register.specs.declared.Opened.the-variants.{Register, Refused}
 use Rattle.limits.specs.Limits.{mostRows, mostColumns, widest, mostSlices, entryBytes, trailerBytes}
-use Rattle.register.specs.Layout.{bytesBefore}
-use Rattle.register.specs.File.{rowsIn, columnsIn, versionIn, directoryIn, markIn, mark, widthIn, unfitColumn}
+use Rattle.directory.specs.Layout.{bytesBefore}
+use Rattle.directory.specs.File.{rowsIn, columnsIn, versionIn, directoryIn, markIn, mark, widthIn, unfitColumn}
 use Rattle.answers.specs.Answers.{refusal}
-use Rattle.register.specs.Opening.{firstUnfit, openLines, openedOf}
-use Rattle.register.proofs.Directory.{fit-column}
+use Rattle.register.specs.Opening.{firstUnfitColumn, openLines, openedOf}
+use Rattle.directory.proofs.Entries.{fit-column}
 use Rattle.register.proofs.Opening.{marked, right-version, few-rows, few-columns, directory-last, all-fit, body-last, opened-by}
 
 pub record Fit (file : List ℕ) : Type 0 where
@@ -65,7 +65,7 @@ opened-is-fit file shape e =
     let line = each-fails (openLines file) (none-when-accepted (openLines file) (answered .0)) in
     let one = neither (ltb (length file) trailerBytes) (not (eqb (markIn file) mark)) (line .0) in
     let four = neither (eqb (columnsIn file) 0) (ltb mostColumns (columnsIn file)) (line .1 .1 .1 .0) in
-    let six = ltb-false (firstUnfit file) (columnsIn file) (line .1 .1 .1 .1 .1 .0) in (
+    let six = ltb-false (firstUnfitColumn file) (columnsIn file) (line .1 .1 .1 .1 .1 .0) in (
       record {
         long = ltb-false (length file) trailerBytes (one .0);
         marked = eqb-true (markIn file) mark (not-false _ (one .1));

@@ -21,10 +21,10 @@ use Rattle.limits.specs.Limits.{mostRows, mostColumns, entryBytes, trailerBytes
 use Rattle.answers.specs.Answers.{refusal}
 use Rattle.register.specs.declared.Opened.{Opened}
 use Rattle.register.specs.declared.Opened.the-variants.{Register, Refused}
-use Rattle.register.specs.Layout.{bytesBefore}
-use Rattle.register.specs.File.{rowsIn, columnsIn, versionIn, directoryIn, markIn, mark, widthIn}
+use Rattle.directory.specs.Layout.{bytesBefore}
+use Rattle.directory.specs.File.{rowsIn, columnsIn, versionIn, directoryIn, markIn, mark, widthIn}
 use Rattle.register.specs.Answers.{shownOf}
-use Rattle.register.specs.Opening.{firstUnfit, openLines, openedOf, shownFor}
+use Rattle.register.specs.Opening.{firstUnfitColumn, openLines, openedOf, shownFor}
 
 module _ (file : List ℕ) where
   abbrev pub Passed : ℕ → Type 0
@@ -50,9 +50,9 @@ module _ (file : List ℕ) where
   unfolding openLines
   directory-last past h = passes past (agrees (directoryIn file + entryBytes * columnsIn file + trailerBytes) (length file) h)
 
-  pub all-fit : Passed 5 → columnsIn file ≤ firstUnfit file → Passed 6
+  pub all-fit : Passed 5 → columnsIn file ≤ firstUnfitColumn file → Passed 6
   unfolding openLines
-  all-fit past h = passes past (le-ltb (firstUnfit file) (columnsIn file) h)
+  all-fit past h = passes past (le-ltb (firstUnfitColumn file) (columnsIn file) h)
 
   pub body-last : Passed 6 → bytesBefore (rowsIn file) (widthIn file) (columnsIn file) ≡ directoryIn file →
       firstLine (openLines file) ≡ none

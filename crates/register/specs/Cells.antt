@@ -5,7 +5,7 @@ use lib.ListN.{getD}
 use Rattle.basis.specs.Lists.{below}
 use Rattle.codes.specs.Width.{slicesOf}
 use Rattle.codes.specs.Bytes.{joined}
-use Rattle.register.specs.File.{rowsIn, widthIn, offsetIn}
+use Rattle.directory.specs.File.{rowsIn, widthIn, offsetIn}
 
 -- the byte of a row in a slice of a column, slices counted from 0
 unfoldable pub byteAt : List ℕ → ℕ → ℕ → ℕ → ℕ

@@ -1,8 +1,4 @@
--- What a register's file is, what opening it answers, and what asking for its widths does.
-pub mod Layout
-pub mod File
+-- What the rows of a register's file are, and what opening it answers.
 pub mod Cells
-pub mod Trailer
 pub mod Answers
 pub mod Opening
-pub mod Widths

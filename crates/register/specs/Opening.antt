@@ -9,13 +9,13 @@ use Rattle.basis.specs.Refusals.{Line, refuse, refuseAt, firstLine, answerBy, s
 use Rattle.register.specs.declared.Opened.{Opened}
 use Rattle.register.specs.declared.Opened.the-variants.{Register, Refused}
 use Rattle.limits.specs.Limits.{mostRows, mostColumns, entryBytes, trailerBytes}
-use Rattle.register.specs.Layout.{bytesBefore}
-use Rattle.register.specs.File.{rowsIn, columnsIn, versionIn, directoryIn, markIn, mark, widthIn, unfitColumn}
+use Rattle.directory.specs.Layout.{bytesBefore}
+use Rattle.directory.specs.File.{rowsIn, columnsIn, versionIn, directoryIn, markIn, mark, widthIn, unfitColumn}
 use Rattle.answers.specs.Answers.{refusal}
 
 -- the lowest unfit column
-abbrev pub firstUnfit : List ℕ → ℕ
-firstUnfit file = firstPlace (unfitColumn file) (columnsIn file)
+abbrev pub firstUnfitColumn : List ℕ → ℕ
+firstUnfitColumn file = firstPlace (unfitColumn file) (columnsIn file)
 
 -- 1: under 16 bytes, or wrong mark
 -- 2: version not 1
@@ -31,7 +31,7 @@ openLines file =
     ∷ refuse 3 (ltb mostRows (rowsIn file))
     ∷ refuse 4 (eqb (columnsIn file) 0 || ltb mostColumns (columnsIn file))
     ∷ refuse 5 (not (eqb (directoryIn file + entryBytes * columnsIn file + trailerBytes) (length file)))
-    ∷ refuseAt 6 (ltb (firstUnfit file) (columnsIn file)) (firstUnfit file)
+    ∷ refuseAt 6 (ltb (firstUnfitColumn file) (columnsIn file)) (firstUnfitColumn file)
     ∷ refuse 7 (not (eqb (bytesBefore (rowsIn file) (widthIn file) (columnsIn file)) (directoryIn file)))
     ∷ []
 

@@ -9,9 +9,9 @@ use lib.Seq.{take-at}
 use Rattle.basis.specs.Refusals.{firstLine}
 use Rattle.basis.proofs.Buffers.{laid-front}
 use Rattle.answers.specs.Answers.{leftBy}
-use Rattle.writer.specs.Layout.{fileLength, fileOf}
+use Rattle.filing.specs.Layout.{fileLength, fileOf}
 use Rattle.writer.specs.Writing.{writeLines, leftIn}
-use Rattle.writer.proofs.Lengths.{length-fileOf}
+use Rattle.filing.proofs.Lengths.{length-fileOf}
 
 pub left-file : (rows : ℕ) (widths codes out : List ℕ) → firstLine (writeLines rows widths codes (length out)) ≡ none →
     take (fileLength rows widths) (leftIn rows widths codes out) ≡ fileOf rows widths codes

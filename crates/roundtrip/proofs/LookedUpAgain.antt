@@ -11,7 +11,7 @@ use Rattle.basis.specs.Buffers.{laid}
 use Rattle.basis.proofs.Places.{first-is-none}
 use Rattle.register.specs.Cells.{codeAt}
 use Rattle.table.specs.Table.{codeOf, FitWidths, FitCodes}
-use Rattle.writer.specs.Layout.{fileOf}
+use Rattle.filing.specs.Layout.{fileOf}
 use Rattle.answers.specs.declared.Answer.the-variants.{Elements}
 use Rattle.answers.proofs.Replies.{accepted-by}
 use Rattle.lookup.specs.LookingUp.{firstMissing, codesOf, lookedUpOf, leftIn}

@@ -5,8 +5,8 @@ use Prim.Native.Nat.{ℕ}
 use mathlib.Core.Path.{_≡_, sym, ap, _∙_}
 use mathlib.Core.Logic.{_⊎_, inl, inr}
 use mathlib.Core.List.{List}
-use Rattle.register.specs.File.{rowsIn}
-use Rattle.writer.specs.Layout.{fileOf}
+use Rattle.directory.specs.File.{rowsIn}
+use Rattle.filing.specs.Layout.{fileOf}
 use Rattle.table.specs.Table.{FitWidths, FitCodes}
 use Rattle.roundtrip.specs.ReadBack.{widthsIn, codesIn}
 use Rattle.roundtrip.proofs.WrittenTrailer.{written-rows}

@@ -7,7 +7,7 @@ use mathlib.Core.Path.{_≡_, refl, ap, _∙_}
 use mathlib.Core.List.{List}
 use lib.ListN.{length, getD}
 use Rattle.register.specs.Cells.{codeAt}
-use Rattle.writer.specs.Layout.{fileOf}
+use Rattle.filing.specs.Layout.{fileOf}
 use Rattle.table.specs.Table.{FitWidths, FitCodes}
 use Rattle.roundtrip.specs.ReadBack.{widthsIn, codesIn}
 use Rattle.roundtrip.proofs.Elements.{made-of-each}

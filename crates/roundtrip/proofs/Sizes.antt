@@ -9,8 +9,8 @@ use Rattle.basis.proofs.Lists.{sum-at-most}
 use Rattle.codes.specs.Width.{slicesOf}
 use Rattle.codes.proofs.Width.{few-slices-of}
 use Rattle.limits.specs.Limits.{mostRows, mostSlices}
-use Rattle.register.specs.Layout.{slicesBefore, bytesBefore}
-use Rattle.register.proofs.Directory.{few-bytes}
+use Rattle.directory.specs.Layout.{slicesBefore, bytesBefore}
+use Rattle.directory.proofs.Entries.{few-bytes}
 use Rattle.table.specs.Table.{widthOf, FitWidths}
 use Rattle.table.proofs.Columns.{narrow}
 

@@ -8,7 +8,7 @@ use Rattle.basis.specs.Buffers.{laid}
 use Rattle.answers.specs.declared.Answer.the-variants.{Elements}
 use Rattle.answers.proofs.Replies.{told-is-accepted}
 use Rattle.table.specs.Table.{codeOf}
-use Rattle.writer.specs.Layout.{fileLength}
+use Rattle.filing.specs.Layout.{fileLength}
 use Rattle.writer.specs.Writing.{writeLines, writtenOf, leftIn}
 use Rattle.writer.proofs.Fit.{accepted-is-fit}
 use Rattle.lookup.specs.LookingUp.{lookedUpOf, leftIn as givenIn}

@@ -13,11 +13,11 @@ use Rattle.codes.specs.Bytes.{bytesOf, byteOf}
 use Rattle.codes.specs.Pad.{cleared}
 use Rattle.codes.proofs.RoundTrip.{length-bytesOf}
 use Rattle.codes.proofs.Pads.{bytesOf-cleared}
-use Rattle.register.specs.Layout.{bytesBefore}
+use Rattle.directory.specs.Layout.{bytesBefore}
 use Rattle.register.specs.Cells.{byteAt, bytesAt}
 use Rattle.table.specs.Table.{widthOf, codeOf, FitWidths, FitCodes}
 use Rattle.slicing.specs.Body.{sliceOf}
-use Rattle.writer.specs.Layout.{fileOf}
+use Rattle.filing.specs.Layout.{fileOf}
 use Rattle.slicing.proofs.Parts.{PartAt, part-in-front}
 use Rattle.slicing.proofs.Body.{slice-in-body, byte-of-slice}
 use Rattle.roundtrip.proofs.Elements.{made-of-each}

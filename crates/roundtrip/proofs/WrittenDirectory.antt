@@ -17,13 +17,13 @@ use Rattle.basis.specs.Lists.{below}
 use Rattle.basis.proofs.Members.{sum-each-same}
 use Rattle.basis.proofs.Runs.{in-below}
 use Rattle.codes.specs.Width.{unfitWidth, slicesOf}
-use Rattle.register.specs.Layout.{slicesBefore, bytesBefore}
-use Rattle.register.specs.File.{entryIn, offsetOf, widthIn, offsetIn, unfitEntry, unfitColumn}
+use Rattle.directory.specs.Layout.{slicesBefore, bytesBefore}
+use Rattle.directory.specs.File.{entryIn, entryOffset, widthIn, offsetIn, unfitEntry, unfitColumn}
 use Rattle.table.specs.Table.{widthOf, FitWidths, FitCodes}
 use Rattle.slicing.specs.Body.{bodyOf}
-use Rattle.writer.specs.Layout.{entryWith, directoryOf, trailerOf, fileOf}
+use Rattle.filing.specs.Layout.{entryWith, directoryOf, trailerOf, fileOf}
 use Rattle.slicing.proofs.Lengths.{length-bodyOf}
-use Rattle.writer.proofs.Lengths.{entryOf, length-entryWith, length-entries}
+use Rattle.filing.proofs.Lengths.{entryOf, length-entryWith, length-entries}
 use Rattle.slicing.proofs.Parts.{PartAt, part-itself, part-in-front, part-behind, part-cut, number-of-part}
 use Rattle.slicing.proofs.Joined.{joined-part}
 use Rattle.roundtrip.proofs.Sizes.{bytes-fit}
@@ -31,13 +31,13 @@ use Rattle.roundtrip.proofs.WrittenTrailer.{written-rows, written-direc
 
 -- an entry by itself
 module _ (width offset : ℕ) (small : offset < 256 ^ 4) where
-  entry-offset : offsetOf (entryWith width offset) ≡ offset
+  entry-offset : entryOffset (entryWith width offset) ≡ offset
   unfolding entryWith
   entry-offset = number-of-part 4 offset small (part-behind (width ∷ 0 ∷ 0 ∷ 0 ∷ []) 4 refl (part-itself (toLittle 4 offset)))
 
   entry-fit : unfitWidth width ≡ false → unfitEntry (entryWith width offset) offset ≡ false
   unfolding unfitEntry entryWith numberAt little
-  entry-fit fits = rw (fits, eq-eqb (offsetOf (entryWith width offset)) offset entry-offset)
+  entry-fit fits = rw (fits, eq-eqb (entryOffset (entryWith width offset)) offset entry-offset)
 
 module _ (rows : ℕ) (widths codes : List ℕ) (fit-widths : FitWidths widths) (fit-codes : FitCodes rows widths codes) where
   module _ (column : ℕ) (there : column < length widths) where

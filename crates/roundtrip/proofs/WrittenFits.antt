@@ -5,9 +5,9 @@ use native.Mathlib.Omega.{arith}
 use mathlib.Core.List.{List}
 use lib.ListN.{length}
 use Rattle.register.proofs.Fit.{Fit}
-use Rattle.writer.specs.Layout.{fileLength, fileOf}
+use Rattle.filing.specs.Layout.{fileLength, fileOf}
 use Rattle.table.specs.Table.{FitWidths, FitCodes}
-use Rattle.writer.proofs.Lengths.{length-fileOf}
+use Rattle.filing.proofs.Lengths.{length-fileOf}
 use Rattle.roundtrip.proofs.WrittenTrailer.{written-rows, written-columns, written-version, written-directory, written-mark}
 use Rattle.roundtrip.proofs.WrittenDirectory.{written-slices, written-fit}
 

@@ -7,7 +7,7 @@ use lib.ListN.{length}
 use Rattle.codes.proofs.RoundTrip.{cut-then-joined}
 use Rattle.register.specs.Cells.{codeAt}
 use Rattle.table.specs.Table.{widthOf, codeOf, FitWidths, FitCodes}
-use Rattle.writer.specs.Layout.{fileOf}
+use Rattle.filing.specs.Layout.{fileOf}
 use Rattle.table.proofs.Columns.{code-below}
 use Rattle.roundtrip.proofs.WrittenDirectory.{written-width}
 use Rattle.roundtrip.proofs.WrittenBody.{written-bytes}

@@ -7,7 +7,7 @@ use lib.ListN.{length}
 use Rattle.register.specs.declared.Opened.the-variants.{Register}
 use Rattle.register.specs.Opening.{openedOf}
 use Rattle.register.proofs.Fit.{fit-is-opened}
-use Rattle.writer.specs.Layout.{fileOf}
+use Rattle.filing.specs.Layout.{fileOf}
 use Rattle.table.specs.Table.{FitWidths, FitCodes}
 use Rattle.roundtrip.proofs.WrittenTrailer.{written-rows, written-columns}
 use Rattle.roundtrip.proofs.WrittenFits.{written-fits}

@@ -14,12 +14,12 @@ use lib.Seq.{drop-at}
 use Rattle.limits.specs.Limits.{trailerBytes}
 use Rattle.basis.specs.Numbers.{little, toLittle, numberAt}
 use Rattle.basis.proofs.Numbers.{length-toLittle}
-use Rattle.register.specs.Layout.{bytesBefore}
-use Rattle.register.specs.File.{trailerIn, rowsIn, columnsIn, versionIn, directoryIn, markIn, markBytes, mark}
+use Rattle.directory.specs.Layout.{bytesBefore}
+use Rattle.directory.specs.File.{trailerIn, rowsIn, columnsIn, versionIn, directoryIn, markIn, markBytes, mark}
 use Rattle.table.specs.Table.{widthOf, FitWidths, FitCodes}
 use Rattle.slicing.specs.Body.{bodyOf}
-use Rattle.writer.specs.Layout.{directoryOf, trailerWith, trailerOf, fileOf}
-use Rattle.writer.proofs.Lengths.{length-trailerWith}
+use Rattle.filing.specs.Layout.{directoryOf, trailerWith, trailerOf, fileOf}
+use Rattle.filing.proofs.Lengths.{length-trailerWith}
 use Rattle.slicing.proofs.Parts.{PartAt, part-itself, part-first, part-behind, part-cut, number-of-part}
 use Rattle.roundtrip.proofs.Sizes.{bytes-fit}
 

@@ -2,7 +2,7 @@
 use Prim.Native.Nat.{ℕ, _*_, _/_, _%_}
 use mathlib.Core.List.{List, map}
 use Rattle.basis.specs.Lists.{below}
-use Rattle.register.specs.File.{rowsIn, columnsIn, widthIn}
+use Rattle.directory.specs.File.{rowsIn, columnsIn, widthIn}
 use Rattle.register.specs.Cells.{codeAt}
 
 -- the width of each column

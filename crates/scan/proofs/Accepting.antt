@@ -18,7 +18,7 @@ use Rattle.basis.proofs.Refusals.{neither-answers}
 use Rattle.codes.specs.Width.{slicesOf}
 use Rattle.codes.proofs.Width.{some-slice}
 use Rattle.register.specs.declared.Opened.the-variants.{Register}
-use Rattle.register.specs.File.{rowsIn, columnsIn, widthIn}
+use Rattle.directory.specs.File.{rowsIn, columnsIn, widthIn}
 use Rattle.register.specs.Opening.{openedOf}
 use Rattle.register.proofs.Fit.{width-as-opened}
 use Rattle.query.specs.declared.Test.{Test}

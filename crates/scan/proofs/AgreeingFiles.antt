@@ -10,7 +10,7 @@ use mathlib.Core.List.{List, [], _∷_, map, List·Memᴰ·head, List·Memᴰ·t
 use lib.ListN.{length}
 use Rattle.basis.specs.Buffers.{laid}
 use Rattle.basis.proofs.Members.{_∈_}
-use Rattle.register.specs.File.{rowsIn, columnsIn, widthIn}
+use Rattle.directory.specs.File.{rowsIn, columnsIn, widthIn}
 use Rattle.query.specs.declared.Query.{Query}
 use Rattle.query.specs.Tests.{testsOf}
 use Rattle.schedule.specs.Schedule.{count, found}

@@ -16,7 +16,7 @@ use Rattle.basis.specs.Buffers.{laid}
 use Rattle.basis.proofs.Lists.{mapped-in-place}
 use Rattle.basis.proofs.Members.{sum-each-same, sum-mapped}
 use Rattle.basis.proofs.Runs.{within-or-past, in-below, sum-ends, taken-by-number}
-use Rattle.register.specs.File.{rowsIn}
+use Rattle.directory.specs.File.{rowsIn}
 use Rattle.query.specs.declared.Test.{Test}
 use Rattle.limits.specs.Limits.{mostTests}
 use Rattle.query.specs.Tests.{emptySlot, testAt, slotsOf}

@@ -8,7 +8,7 @@ use lib.ListN.{length, getD}
 use Rattle.basis.proofs.Lists.{at-is-member}
 use Rattle.basis.proofs.Members.{_∈_}
 use Rattle.codes.specs.Width.{slicesOf}
-use Rattle.register.specs.File.{rowsIn, widthIn}
+use Rattle.directory.specs.File.{rowsIn, widthIn}
 use Rattle.query.specs.declared.Query.{Query}
 use Rattle.query.specs.Tests.{emptySlot, testsOf, testAt}
 use Rattle.schedule.specs.Comparisons.{ColumnTest, comparing}

@@ -14,7 +14,7 @@ use Rattle.basis.specs.Numbers.{areBytes}
 use Rattle.basis.proofs.Lists.{at-is-member}
 use Rattle.basis.proofs.Members.{_∈_, all-gives, all-mapped}
 use Rattle.basis.proofs.Runs.{within-or-past}
-use Rattle.register.specs.File.{rowsIn}
+use Rattle.directory.specs.File.{rowsIn}
 use Rattle.register.specs.Cells.{byteAt, bytesAt, codeAt}
 use Rattle.query.specs.declared.Query.{Query}
 use Rattle.query.specs.Tests.{meets, testsOf}

@@ -10,7 +10,7 @@ use borrow.Author.Tests.{lt-ltb}
 use lib.ListN.{length, getD, drop, List·getD-append}
 use Rattle.basis.specs.Buffers.{laid}
 use Rattle.basis.proofs.Buffers.{laid-front}
-use Rattle.register.specs.File.{rowsIn}
+use Rattle.directory.specs.File.{rowsIn}
 use Rattle.query.specs.declared.Query.{Query}
 use Rattle.schedule.specs.Schedule.{found}
 use Rattle.schedule.specs.Comparisons.{comparing}

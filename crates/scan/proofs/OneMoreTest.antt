@@ -12,7 +12,7 @@ use lib.Dec.{T}
 use lib.ListN.{length, getD, length-append, List·getD-append}
 use Rattle.basis.specs.Lists.{below}
 use Rattle.basis.proofs.Members.{sum-each-at-most}
-use Rattle.register.specs.File.{rowsIn}
+use Rattle.directory.specs.File.{rowsIn}
 use Rattle.query.specs.declared.Test.{Test}
 use Rattle.query.specs.declared.Query.{Query}
 use Rattle.query.specs.Tests.{emptySlot, testsOf, testAt}

@@ -19,7 +19,7 @@ use Rattle.answers.specs.declared.Refusal.{Refusal}
 use Rattle.answers.specs.Answers.{refusal}
 use Rattle.register.specs.declared.Shape.{Shape}
 use Rattle.register.specs.declared.Opened.the-variants.{Register, Refused as NotFit}
-use Rattle.register.specs.File.{rowsIn}
+use Rattle.directory.specs.File.{rowsIn}
 use Rattle.register.proofs.Fit.{rows-as-opened}
 use Rattle.query.specs.declared.Query.{Query}
 use Rattle.asking.specs.Refusals.{askLines, askedOf}

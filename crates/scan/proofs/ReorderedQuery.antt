@@ -12,7 +12,7 @@ use mathlib.Core.List.{List, map, List·Permᴰ·nil, List·Permᴰ·cons, List�
 use lib.ListN.{length, getD}
 use Rattle.basis.specs.Buffers.{laid}
 use Rattle.basis.proofs.Members.{Reordered}
-use Rattle.register.specs.File.{rowsIn}
+use Rattle.directory.specs.File.{rowsIn}
 use Rattle.query.specs.declared.Test.{Test}
 use Rattle.query.specs.declared.Query.{Query}
 use Rattle.query.specs.Tests.{testsOf, testAt}

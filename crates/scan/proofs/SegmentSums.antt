@@ -14,7 +14,7 @@ use Rattle.basis.specs.Lists.{sum, below}
 use Rattle.basis.proofs.Lists.{sum-grows}
 use Rattle.basis.proofs.Runs.{within-or-past, sum-ends}
 use Rattle.codes.proofs.Width.{few-slices-of}
-use Rattle.register.specs.File.{widthIn}
+use Rattle.directory.specs.File.{widthIn}
 use Rattle.limits.specs.Limits.{mostRows, widest, mostSlices}
 use Rattle.query.specs.declared.Test.{Test}
 use Rattle.schedule.specs.Segments.{segmentCount, segment, segments}

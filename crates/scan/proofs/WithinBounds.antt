@@ -16,7 +16,7 @@ use Rattle.basis.specs.Lists.{sum, below}
 use Rattle.basis.proofs.Truth.{at-most-one}
 use Rattle.basis.proofs.Lists.{sum-at-most}
 use Rattle.basis.proofs.Runs.{within-or-past}
-use Rattle.register.specs.File.{widthIn}
+use Rattle.directory.specs.File.{widthIn}
 use Rattle.limits.specs.Limits.{mostRows, widest, mostSlices, mostTests, longestSegment}
 use Rattle.query.specs.declared.Test.{Test}
 use Rattle.query.specs.Tests.{testAt}

@@ -5,7 +5,7 @@ use lib.ListN.{length}
 use Rattle.basis.specs.Refusals.{firstLine, answerBy}
 use Rattle.basis.specs.Buffers.{laid}
 use Rattle.answers.specs.declared.Refusal.{Refusal}
-use Rattle.register.specs.File.{rowsIn}
+use Rattle.directory.specs.File.{rowsIn}
 use Rattle.answers.specs.Answers.{refusal}
 use Rattle.query.specs.declared.Query.{Query}
 use Rattle.query.specs.Tests.{slotsOf}

@@ -3,7 +3,7 @@ use Prim.Native.Nat.{ℕ}
 use mathlib.Core.List.{List, [], _∷_, _++_}
 use lib.Dec.{ltb}
 use Rattle.basis.specs.Refusals.{Line, refuseFor}
-use Rattle.register.specs.File.{rowsIn}
+use Rattle.directory.specs.File.{rowsIn}
 use Rattle.query.specs.declared.Query.{Query}
 use Rattle.asking.specs.Refusals.{askLines}
 use Rattle.bits.specs.Bits.{bytesFor}

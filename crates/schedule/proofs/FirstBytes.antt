@@ -1,6 +1,6 @@
 -- After j slices a row stands to a comparison as its first j bytes, pads cleared, to the literal's. Assumes nothing.
---   bytesIn            a row's bytes in the column of a test
---   length-bytesIn, bytesIn-bytes    as many as the column has slices, each a byte
+--   testBytes            a row's bytes in the column of a test
+--   length-testBytes, testBytes-bytes    as many as the column has slices, each a byte
 --   order-one-more     one byte more decides where those before are equal
 --   standing-is-order  after j slices
 --   standing-at-last   after all of them
@@ -29,16 +29,16 @@ use Rattle.schedule.specs.Comparisons.{ColumnTest, comparing}
 use Rattle.schedule.proofs.Standing.{standing-next}
 
 -- a row's bytes in the column of a test
-abbrev pub bytesIn : Bytes ColumnTest → ColumnTest → ℕ → List ℕ
-bytesIn R t row = map (λ j. R t j row) (below (slicesOf (t .width)))
+abbrev pub testBytes : Bytes ColumnTest → ColumnTest → ℕ → List ℕ
+testBytes R t row = map (λ j. R t j row) (below (slicesOf (t .width)))
 
-pub length-bytesIn : (R : Bytes ColumnTest) (t : ColumnTest) (row : ℕ) → length (bytesIn R t row) ≡ slicesOf (t .width)
-length-bytesIn R t row = length-map (below (slicesOf (t .width))) (λ j. R t j row) ∙ length-run 0 (slicesOf (t .width))
+pub length-testBytes : (R : Bytes ColumnTest) (t : ColumnTest) (row : ℕ) → length (testBytes R t row) ≡ slicesOf (t .width)
+length-testBytes R t row = length-map (below (slicesOf (t .width))) (λ j. R t j row) ∙ length-run 0 (slicesOf (t .width))
 
-pub bytesIn-bytes : (R : Bytes ColumnTest) (t : ColumnTest) (row : ℕ) →
-    ((j : ℕ) → j < slicesOf (t .width) → R t j row < 256) → T (areBytes (bytesIn R t row))
-bytesIn-bytes R t row small =
-    all-from (λ b. ltb b 256) (bytesIn R t row)
+pub testBytes-bytes : (R : Bytes ColumnTest) (t : ColumnTest) (row : ℕ) →
+    ((j : ℕ) → j < slicesOf (t .width) → R t j row < 256) → T (areBytes (testBytes R t row))
+testBytes-bytes R t row small =
+    all-from (λ b. ltb b 256) (testBytes R t row)
     (λ b m.
     let from = Memᴰ·of-map (λ j. R t j row) (below (slicesOf (t .width))) m in
     rw (← from .2) (lt→ltb (R t (from .0) row) 256 (small (from .0) (in-below (slicesOf (t .width)) (from .0) (from .1)))))
@@ -65,25 +65,25 @@ order-one-more (a ∷ xs) (b ∷ ys) x y long =
 module _ (R : Bytes ColumnTest) (t : ColumnTest) (row : ℕ) where
   -- the row's bytes with their pads cleared, and the literal's
   abbrev rowBytes : List ℕ
-  rowBytes = cleared (t .width) (bytesIn R t row)
+  rowBytes = cleared (t .width) (testBytes R t row)
 
   abbrev literalBytes : List ℕ
   literalBytes = bytesOf (t .width) (literalOf (t .comparison))
 
   row-long : length rowBytes ≡ slicesOf (t .width)
-  row-long = length-cleared (t .width) (bytesIn R t row) ∙ length-bytesIn R t row
+  row-long = length-cleared (t .width) (testBytes R t row) ∙ length-testBytes R t row
 
   literal-long : length literalBytes ≡ slicesOf (t .width)
   literal-long = length-bytesOf (t .width) (literalOf (t .comparison))
 
   row-byte : (j : ℕ) → j < slicesOf (t .width) → getD rowBytes j 0 ≡ clearedByte (t .width) j (R t j row)
   row-byte j h =
-      cleared-at (t .width) (bytesIn R t row) j (omega (arith, length-bytesIn R t row))
+      cleared-at (t .width) (testBytes R t row) j (omega (arith, length-testBytes R t row))
       ∙ ap (clearedByte (t .width) j) (mapped-at (λ i. R t i row) (slicesOf (t .width)) j 0 h)
 
   standing-is-order : (j : ℕ) → j ≤ slicesOf (t .width) →
       standing comparing R t j row
-      ≡ order (take j (cleared (t .width) (bytesIn R t row))) (take j (bytesOf (t .width) (literalOf (t .comparison))))
+      ≡ order (take j (cleared (t .width) (testBytes R t row))) (take j (bytesOf (t .width) (literalOf (t .comparison))))
   unfolding standing order byteOf
   standing-is-order zero h = refl
   standing-is-order (suc j) h =
@@ -97,7 +97,7 @@ module _ (R : Bytes ColumnTest) (t : ColumnTest) (row : ℕ) where
       ∙ ap₂ order (sym (take-suc rowBytes j 0 in-row)) (sym (take-suc literalBytes j 0 in-literal))
 
   pub standing-at-last : standing comparing R t (slicesOf (t .width)) row
-      ≡ order (cleared (t .width) (bytesIn R t row)) (bytesOf (t .width) (literalOf (t .comparison)))
+      ≡ order (cleared (t .width) (testBytes R t row)) (bytesOf (t .width) (literalOf (t .comparison)))
   standing-at-last =
       standing-is-order (slicesOf (t .width)) (le-refl (slicesOf (t .width)))
       ∙ ap₂ order (take-all (slicesOf (t .width)) rowBytes (omega (arith, row-long)))

@@ -15,12 +15,12 @@ use Rattle.codes.proofs.FirstByte.{first-byte-decides-in-a-file}
 use Rattle.query.specs.Tests.{literalOf, meets}
 use Rattle.schedule.specs.Schedule.{Bytes, standing, found}
 use Rattle.schedule.specs.Comparisons.{ColumnTest, trueWhen, comparing}
-use Rattle.schedule.proofs.FirstBytes.{bytesIn, length-bytesIn, bytesIn-bytes, standing-at-last}
+use Rattle.schedule.proofs.FirstBytes.{testBytes, length-testBytes, testBytes-bytes, standing-at-last}
 use Rattle.schedule.proofs.TrueWhen.{true-when-met}
 
 -- a row's code in the column of a test
 abbrev pub codeIn : Bytes ColumnTest → ColumnTest → ℕ → ℕ
-codeIn R t row = joined (t .width) (bytesIn R t row)
+codeIn R t row = joined (t .width) (testBytes R t row)
 
 -- the literal is a code of the column, and the register holds bytes
 pub record Fit (R : Bytes ColumnTest) (t : ColumnTest) (row : ℕ) : Type 0 where
@@ -35,8 +35,8 @@ module _ (R : Bytes ColumnTest) where
   true-is-meets t row fit =
       ap (trueWhen (t .comparison))
       (standing-at-last R t row
-      ∙ first-byte-decides-in-a-file (t .width) (literalOf (t .comparison)) (bytesIn R t row) (bytesIn-bytes R t row (fit .bytes))
-      (length-bytesIn R t row)
+      ∙ first-byte-decides-in-a-file (t .width) (literalOf (t .comparison)) (testBytes R t row) (testBytes-bytes R t row (fit .bytes))
+      (length-testBytes R t row)
       (fit .literal-fits))
       ∙ true-when-met (t .comparison) (codeIn R t row)
 

@@ -13,7 +13,7 @@ use Rattle.codes.specs.Width.{slicesOf}
 use Rattle.codes.proofs.Width.{below-the-limit}
 use Rattle.limits.specs.Limits.{widest}
 use Rattle.register.specs.declared.Shape.{Shape}
-use Rattle.register.specs.File.{rowsIn, widthIn, offsetIn}
+use Rattle.directory.specs.File.{rowsIn, widthIn, offsetIn}
 use Rattle.register.specs.Cells.{byteAt}
 use Rattle.register.proofs.Fit.{rows-as-opened, width-as-opened}
 use Rattle.register.proofs.Body.{byte-as-opened}

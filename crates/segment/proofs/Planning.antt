@@ -15,7 +15,7 @@ use Rattle.codes.specs.Bytes.{byteOf}
 use Rattle.codes.specs.Pad.{highOf}
 use Rattle.codes.proofs.Width.{few-slices-of, below-the-limit}
 use Rattle.register.specs.declared.Shape.{Shape}
-use Rattle.register.specs.File.{widthIn, offsetIn}
+use Rattle.directory.specs.File.{widthIn, offsetIn}
 use Rattle.register.proofs.Fit.{width-as-opened}
 use Rattle.query.specs.declared.Test.{Test}
 use Rattle.query.specs.Tests.{literalOf, testAt}

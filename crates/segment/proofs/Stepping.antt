@@ -11,7 +11,7 @@ use Rattle.limits.specs.Limits.{mostSlices}
 use Rattle.codes.specs.Width.{slicesOf}
 use Rattle.codes.specs.Bytes.{byteOf}
 use Rattle.codes.specs.Pad.{highOf}
-use Rattle.register.specs.File.{widthIn}
+use Rattle.directory.specs.File.{widthIn}
 use Rattle.register.specs.Cells.{byteAt}
 use Rattle.query.specs.declared.Test.{Test}
 use Rattle.query.specs.Tests.{literalOf, testAt}

@@ -9,7 +9,7 @@ use Rattle.limits.specs.Limits.{widest, mostSlices, mostTests, longestSegment}
 use Rattle.codes.specs.Width.{slicesOf}
 use Rattle.codes.specs.Bytes.{byteOf}
 use Rattle.codes.specs.Pad.{highOf}
-use Rattle.register.specs.File.{widthIn, offsetIn}
+use Rattle.directory.specs.File.{widthIn, offsetIn}
 use Rattle.query.specs.declared.Test.{Test}
 use Rattle.asking.specs.Judged.{Judged, asked}
 use Rattle.query.specs.Tests.{literalOf, testAt}

@@ -97,7 +97,7 @@ fn high_of(width: u8, literal: u64, slice: usize) -> u8
 {
     let low = codes::byte_of(width, literal, slice);
     if slice + 1 == codes::slices_of(width) {
-        (codes::wide(low) + (codes::unit_of(width) - 1)) as u8
+        (numbers::wide64(low) + (codes::unit_of(width) - 1)) as u8
     } else {
         low
     }

@@ -17,12 +17,12 @@ use Rattle.codes.specs.Width.{slicesOf}
 use Rattle.codes.specs.Bytes.{storedOf}
 use Rattle.codes.proofs.Width.{bytes-of-bits}
 use Rattle.codes.proofs.RoundTrip.{byteOf-digit}
-use Rattle.register.specs.Layout.{slicesBefore, bytesBefore}
+use Rattle.directory.specs.Layout.{slicesBefore, bytesBefore}
 use Rattle.register.proofs.Body.{among-all}
 use Rattle.table.specs.Table.{widthOf, codeOf}
 use Rattle.slicing.specs.Body.{bodyOf}
 use Rattle.basis.specs.Buffers.{laid}
-use Rattle.table.specs.Judging.{Holds}
+use Rattle.table.specs.ManyAtOnce.{Holds}
 use Rattle.slicing.specs.Putting.{Put}
 use Rattle.slicing.proofs.Lengths.{length-bodyOf}
 use Rattle.slicing.proofs.Body.{byte-in-body}

@@ -10,7 +10,7 @@ use lib.ListN.{length, getD}
 use Rattle.basis.proofs.Runs.{mapped-at}
 use Rattle.codes.specs.Width.{slicesOf}
 use Rattle.codes.specs.Bytes.{byteOf}
-use Rattle.register.specs.Layout.{slicesBefore, bytesBefore}
+use Rattle.directory.specs.Layout.{slicesBefore, bytesBefore}
 use Rattle.table.specs.Table.{widthOf, codeOf}
 use Rattle.slicing.specs.Body.{sliceOf, columnOf, bodyOf}
 use Rattle.slicing.proofs.Lengths.{length-sliceOf, length-slices, length-columns}

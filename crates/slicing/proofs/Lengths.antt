@@ -11,7 +11,7 @@ use lib.ListN.{length, length-map}
 use Rattle.basis.specs.Lists.{below}
 use Rattle.basis.proofs.Lists.{length-run, length-flatten, sum-of-same, sum-scaled}
 use Rattle.codes.specs.Width.{slicesOf}
-use Rattle.register.specs.Layout.{slicesBefore, bytesBefore}
+use Rattle.directory.specs.Layout.{slicesBefore, bytesBefore}
 use Rattle.table.specs.Table.{widthOf}
 use Rattle.slicing.specs.Body.{sliceOf, columnOf, bodyOf}
 

@@ -4,7 +4,7 @@ use mathlib.Core.Path.{_≡_}
 use mathlib.Core.List.{List}
 use lib.ListN.{length, getD}
 use Rattle.limits.specs.Limits.{blockRows}
-use Rattle.register.specs.Layout.{bytesBefore}
+use Rattle.directory.specs.Layout.{bytesBefore}
 use Rattle.table.specs.Table.{widthOf}
 
 -- a block of rows, and a buffer with room for the body

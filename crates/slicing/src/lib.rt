@@ -9,10 +9,10 @@ ghost use Rattle.basis.specs.Buffers.{laid};
 ghost use Rattle.basis.specs.Lists.{below};
 ghost use Rattle.codes.specs.Width.{slicesOf};
 ghost use Rattle.codes.specs.Bytes.{storedOf};
-ghost use Rattle.register.specs.Layout.{slicesBefore, bytesBefore};
+ghost use Rattle.directory.specs.Layout.{slicesBefore, bytesBefore};
 ghost use Rattle.table.specs.Table.{widthOf, codeOf, FitWidths, FitCodes};
 ghost use Rattle.slicing.specs.Body.{bodyOf};
-ghost use Rattle.table.specs.Judging.{Holds};
+ghost use Rattle.table.specs.ManyAtOnce.{Holds};
 ghost use Rattle.slicing.specs.Putting.{FitBlock, Put};
 
 // Writes the slices of all columns to the front, by blocks of rows, so that the codes are gone

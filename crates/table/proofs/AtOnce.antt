@@ -17,7 +17,7 @@ use lib.Seq.{getD-set-same, getD-set-other}
 use Rattle.basis.proofs.Runs.{within-or-past}
 use Rattle.codes.specs.Width.{tooLarge}
 use Rattle.table.specs.Table.{widthOf}
-use Rattle.table.specs.Judging.{Holds, Below, Covers, Raised}
+use Rattle.table.specs.ManyAtOnce.{Holds, Below, Covers, Raised}
 
 -- what is joined is at least either part
 left-joined : (a b : ℕ) → a ≤ bitOr a b

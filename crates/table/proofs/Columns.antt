@@ -19,8 +19,8 @@ use Rattle.codes.specs.Width.{slicesOf}
 use Rattle.codes.specs.Bytes.{storedOf}
 use Rattle.codes.proofs.Width.{unfit-false, few-slices-of, below-the-limit}
 use Rattle.codes.proofs.RoundTrip.{stored-below}
-use Rattle.register.specs.Layout.{slicesBefore}
-use Rattle.register.proofs.Directory.{one-more-column}
+use Rattle.directory.specs.Layout.{slicesBefore}
+use Rattle.directory.proofs.Entries.{one-more-column}
 use Rattle.table.specs.Table.{widthOf, codeOf, FitWidths, FitCodes}
 
 pub record Counted (widths : List ℕ) (slices column : ℕ) : Type 0 where

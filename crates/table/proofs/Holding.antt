@@ -8,7 +8,7 @@ use mathlib.Core.List.{List}
 use borrow.Author.Count.{below-none, below-more}
 use lib.ListN.{length, getD, set}
 use lib.Seq.{getD-set-same, getD-set-other}
-use Rattle.table.specs.Judging.{Holds}
+use Rattle.table.specs.ManyAtOnce.{Holds}
 
 pub holds-nothing : (made : ℕ → ℕ) (list : List ℕ) → Holds made 0 list
 holds-nothing made list = record { each = below-none _ }

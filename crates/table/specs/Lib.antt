@@ -1,3 +1,3 @@
 -- Codes and the widths of their columns: which fit.
 pub mod Table
-pub mod Judging
+pub mod ManyAtOnce

@@ -17,8 +17,8 @@ abbrev pub codeOf : List ℕ → List ℕ → ℕ → ℕ → ℕ
 codeOf widths codes row column = getD codes (row * length widths + column) 0
 
 -- the lowest column whose width fits no column
-abbrev pub firstUnfit : List ℕ → ℕ
-firstUnfit widths = firstPlace (λ column. unfitWidth (widthOf widths column)) (length widths)
+abbrev pub firstUnfitWidth : List ℕ → ℕ
+firstUnfitWidth widths = firstPlace (λ column. unfitWidth (widthOf widths column)) (length widths)
 
 -- the lowest index of a code that is not below 2^k, k being the width of its column
 abbrev pub firstTooLarge : List ℕ → List ℕ → ℕ

@@ -9,12 +9,12 @@ ghost use lib.Dec.{ltb};
 ghost use lib.ListN.{length, getD};
 ghost use Rattle.limits.specs.Limits.{mostColumns, longestPeriod};
 ghost use Rattle.basis.specs.Places.{firstPlace};
-ghost use Rattle.table.specs.Table.{widthOf, FitWidths, firstUnfit, firstTooLarge};
-ghost use Rattle.table.specs.Judging.{Below, Covers, Raised, Holds};
+ghost use Rattle.table.specs.Table.{widthOf, FitWidths, firstUnfitWidth, firstTooLarge};
+ghost use Rattle.table.specs.ManyAtOnce.{Below, Covers, Raised, Holds};
 
 // The lowest column whose width fits none, or the number of columns.
 pub fn first_unfit(widths: &[u8]) -> usize
-    ensures { λ r. ⌜ r ≡ firstUnfit (now (widths .entry)) ⌝ }
+    ensures { λ r. ⌜ r ≡ firstUnfitWidth (now (widths .entry)) ⌝ }
 {
     let mut column = 0;
     while column < widths.len() {

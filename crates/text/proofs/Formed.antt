@@ -17,7 +17,7 @@ use mathlib.Core.List.{
 }
 use Rattle.limits.specs.Limits.{decimalLimit}
 use Rattle.query.specs.declared.Test.{Test}
-use Rattle.text.specs.Lines.{SmallTest}
+use Rattle.query_lines.specs.Lines.{SmallTest}
 use Rattle.text.specs.Reading.{Formed}
 
 pub no-tests : {size : ℕ} → size < decimalLimit → Formed size []

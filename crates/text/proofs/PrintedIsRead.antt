@@ -7,7 +7,7 @@ use lib.ListN.{length}
 use Rattle.query.specs.declared.Test.{Test}
 use Rattle.limits.specs.Limits.{mostTests}
 use Rattle.text.specs.declared.Asked.{Asked}
-use Rattle.text.specs.Lines.{textOf}
+use Rattle.query_lines.specs.Lines.{textOf}
 use Rattle.text.specs.Reading.{accepted, Formed, Reads}
 use Rattle.text.proofs.SingleReply.{single-reply}
 

@@ -7,7 +7,7 @@ use mathlib.Core.List.{List}
 use Rattle.limits.specs.Limits.{mostTests}
 use Rattle.query.specs.Tests.{emptySlot, testsOf}
 use Rattle.text.specs.declared.Asked.{Asked}
-use Rattle.text.specs.Lines.{textOf}
+use Rattle.query_lines.specs.Lines.{textOf}
 use Rattle.text.specs.Reading.{Reads}
 use Rattle.query.proofs.Slots.{filled-front}
 

@@ -15,12 +15,12 @@ use Rattle.query.specs.declared.Test.{Test}
 use Rattle.limits.specs.Limits.{mostTests}
 use Rattle.query.specs.Tests.{emptySlot, slotsOf}
 use Rattle.decimals.specs.declared.Number.the-variants.{Value}
-use Rattle.text.specs.declared.Line.the-variants.{Asks, Malformed}
+use Rattle.query_lines.specs.declared.Line.the-variants.{Asks, Malformed}
 use Rattle.text.specs.declared.Asked.{Asked}
-use Rattle.text.specs.Lines.{segmentLine, testLine, textOf}
+use Rattle.query_lines.specs.Lines.{segmentText, testText, textOf}
 use Rattle.text.specs.Reading.{refusedWith, Formed, Reads}
-use Rattle.text.specs.Steps.{SegmentAt, LineAt}
-use Rattle.text.proofs.Lines.{text-one-more}
+use Rattle.query_lines.specs.Steps.{SegmentAt, LineAt}
+use Rattle.query_lines.proofs.Lines.{text-one-more}
 use Rattle.text.proofs.Formed.{no-tests, test-behind}
 use Rattle.query.proofs.Slots.{filled-one-more, filled-past-last}
 
@@ -40,7 +40,7 @@ first-line text size line empty = record {
   tests = [];
   formed = no-tests (line .0);
   many = refl;
-  spelt = rw (append-nil (segmentLine size)) (line .2);
+  spelt = rw (append-nil (segmentText size)) (line .2);
   held = empty;
   few = omega arith;
   within = line .1;
@@ -64,7 +64,7 @@ module _ {text : List ℕ} {size at count : ℕ} {slots : List Test} (so-far : R
     spelt =
         so-far .spelt
         ∙ ap (λ (rest : List ℕ). textOf size (so-far .tests) ++ rest) (line .3)
-        ∙ sym (append-assoc (textOf size (so-far .tests)) (testLine test) (drop next text))
+        ∙ sym (append-assoc (textOf size (so-far .tests)) (testText test) (drop next text))
         ∙ ap (λ (front : List ℕ). front ++ drop next text) (sym (text-one-more size (so-far .tests) test));
     held = slots-now;
     few = omega (arith, so-far .few);

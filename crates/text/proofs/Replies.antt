@@ -17,9 +17,9 @@ use Rattle.basis.proofs.Truth.{hit, missed}
 use Rattle.query.specs.declared.Test.{Test}
 use Rattle.limits.specs.Limits.{mostTests}
 use Rattle.text.specs.declared.Asked.{Asked}
-use Rattle.text.specs.Lines.{segmentLine, testLine, textOf, SmallTest}
-use Rattle.text.specs.Reading.{accepted, refusedWith, BeginsSegment, BeginsTest, Formed, Reads}
-use Rattle.text.proofs.Lines.{same-segment-line, same-test-line, test-line-some}
+use Rattle.query_lines.specs.Lines.{segmentText, testText, textOf, SmallTest, BeginsSegment, BeginsTest}
+use Rattle.text.specs.Reading.{accepted, refusedWith, Formed, Reads}
+use Rattle.query_lines.proofs.Lines.{same-segment-line, same-test-line, test-line-some}
 
 -- each test is small
 abbrev EachSmall : List Test → Type 0
@@ -27,13 +27,13 @@ EachSmall tests = (test : Test) → List·Memᴰ test tests → SmallTest test
 
 -- what begins with a line of a test is no rest
 not-rest : (test : Test) (tests : List Test) (rest : List ℕ) {left : List ℕ} → SmallTest test → (BeginsTest left → ⊥) →
-    left ≡ flatten (map testLine (test ∷ tests)) ++ rest → ⊥
+    left ≡ flatten (map testText (test ∷ tests)) ++ rest → ⊥
 unfolding flatten
 not-rest test tests rest small none e =
-    none (test, flatten (map testLine tests) ++ rest, small, e ∙ append-assoc (testLine test) (flatten (map testLine tests)) rest)
+    none (test, flatten (map testText tests) ++ rest, small, e ∙ append-assoc (testText test) (flatten (map testText tests)) rest)
 
 same-tests : (tests others : List Test) {rest left : List ℕ} → EachSmall tests → EachSmall others → (BeginsTest rest → ⊥) →
-    (BeginsTest left → ⊥) → flatten (map testLine tests) ++ rest ≡ flatten (map testLine others) ++ left →
+    (BeginsTest left → ⊥) → flatten (map testText tests) ++ rest ≡ flatten (map testText others) ++ left →
     (tests ≡ others) × (rest ≡ left)
 unfolding flatten
 same-tests [] [] small fits none never e = (refl, e)
@@ -43,9 +43,9 @@ same-tests (test ∷ tests) [] {rest} small fits none never e =
     absurd (not-rest test tests rest (small test (List·Memᴰ·head refl)) never (sym e))
 same-tests (test ∷ tests) (other ∷ others) {rest} {left} small fits none never e =
     let line = same-test-line test other (small test (List·Memᴰ·head refl)) (fits other (List·Memᴰ·head refl))
-    (sym (append-assoc (testLine test) (flatten (map testLine tests)) rest)
+    (sym (append-assoc (testText test) (flatten (map testText tests)) rest)
     ∙ e
-    ∙ append-assoc (testLine other) (flatten (map testLine others)) left) in
+    ∙ append-assoc (testText other) (flatten (map testText others)) left) in
     let after = same-tests tests others (λ t there. small t (List·Memᴰ·tail there)) (λ t there. fits t (List·Memᴰ·tail there)) none never
     (line .1) in
     (ap₂ _∷_ (line .0) (after .0), after .1)
@@ -56,16 +56,16 @@ pub same-lines : (size other : ℕ) (tests others : List Test) {rest left : List
 unfolding textOf
 same-lines size other tests others {rest} {left} small fits none never e =
     let first = same-segment-line size other (small .size-small) (fits .size-small)
-    (sym (append-assoc (segmentLine size) (flatten (map testLine tests)) rest)
+    (sym (append-assoc (segmentText size) (flatten (map testText tests)) rest)
     ∙ e
-    ∙ append-assoc (segmentLine other) (flatten (map testLine others)) left) in
+    ∙ append-assoc (segmentText other) (flatten (map testText others)) left) in
     let after = same-tests tests others (small .each-small) (fits .each-small) none never (first .1) in
     (first .0, after .0, after .1)
 
 pub begins-with-segment : (size : ℕ) (tests : List Test) (rest : List ℕ) → Formed size tests → BeginsSegment (textOf size tests ++ rest)
 unfolding textOf
 begins-with-segment size tests rest formed =
-    (size, flatten (map testLine tests) ++ rest, formed .size-small, append-assoc (segmentLine size) (flatten (map testLine tests)) rest)
+    (size, flatten (map testText tests) ++ rest, formed .size-small, append-assoc (segmentText size) (flatten (map testText tests)) rest)
 
 pub replyTo : ℕ → List Test → List ℕ → Asked
 replyTo size tests (b ∷ rest) = refusedWith 17 (1 + length tests)

@@ -17,11 +17,11 @@ use Rattle.text.specs.declared.Asked.{Asked}
 use Rattle.decimals.specs.declared.After.the-variants.{LineFeed}
 use Rattle.decimals.specs.declared.Number.the-variants.{NoNumber}
 use Rattle.decimals.specs.Decimals.{decimal, decimalIn, lineFeed}
-use Rattle.text.specs.Lines.{segmentWord, segmentLine, testLine, textOf}
+use Rattle.query_lines.specs.Lines.{segmentWord, segmentText, testText, textOf}
 use Rattle.text.specs.Reading.{accepted, refusedWith, Formed, Reads}
 use Rattle.text.proofs.Formed.{no-tests, test-before}
 use Rattle.decimals.proofs.Numbers.{leading-zero}
-use Rattle.text.proofs.ReadLines.{segment-read, word-missing}
+use Rattle.query_lines.proofs.ReadLines.{segment-read, word-missing}
 use Rattle.text.proofs.PrintedIsRead.{printed-is-read}
 
 -- the bytes of `segment 8`, `0 < 512`, `1 = 5`
@@ -36,7 +36,7 @@ abbrev two-tests : List Test
 two-tests = record { column = 0; comparison = Less 512 } ∷ record { column = 1; comparison = Equal 5 } ∷ []
 
 listing-printed : textOf 8 two-tests ≡ listing
-unfolding textOf flatten segmentLine testLine decimal decimalIn
+unfolding textOf flatten segmentText testText decimal decimalIn
 listing-printed = refl
 
 two-tests-formed : Formed 8 two-tests

@@ -7,8 +7,8 @@ use mathlib.Core.Path.{_≡_, sym, subst, _∙_}
 use mathlib.Core.List.{List, _++_}
 use Rattle.query.specs.declared.Test.{Test}
 use Rattle.text.specs.declared.Asked.{Asked}
-use Rattle.text.specs.Lines.{textOf}
-use Rattle.text.specs.Reading.{BeginsSegment, Formed, Reads}
+use Rattle.query_lines.specs.Lines.{textOf, BeginsSegment}
+use Rattle.text.specs.Reading.{Formed, Reads}
 use Rattle.text.proofs.read.Reads.{Post as Reading}
 use Rattle.text.proofs.Replies.{same-lines, begins-with-segment, replyTo, Taken, taken}
 

@@ -1,13 +1,12 @@
 -- What reading a text answers, by the text of a query. Assumes nothing.
 use Prim.Native.Nat.{ℕ, _+_, _<_, _≤_}
-use mathlib.Core.Path.{_≡_}
 use mathlib.Core.List.{List, [], _++_, List·Memᴰ}
 use lib.ListN.{length}
 use Rattle.query.specs.declared.Test.{Test}
 use Rattle.limits.specs.Limits.{mostTests, decimalLimit}
 use Rattle.query.specs.Tests.{emptySlot, slotsOf}
 use Rattle.text.specs.declared.Asked.{Asked}
-use Rattle.text.specs.Lines.{segmentLine, testLine, textOf, SmallTest}
+use Rattle.query_lines.specs.Lines.{textOf, SmallTest, BeginsSegment, BeginsTest}
 
 -- an accepted reply: the size and the tests
 abbrev pub accepted : ℕ → List Test → Asked
@@ -24,13 +23,6 @@ refusedWith number place = record {
   size = 0;
   query = record { count = 0; tests = slotsOf emptySlot [] };
 }
-
--- a text begins with a well formed line 0, or with a well formed line of a test
-abbrev pub BeginsSegment : List ℕ → Type 0
-BeginsSegment text = (size : ℕ) × (rest : List ℕ) × (size < decimalLimit) × (text ≡ segmentLine size ++ rest)
-
-abbrev pub BeginsTest : List ℕ → Type 0
-BeginsTest text = (test : Test) × (rest : List ℕ) × SmallTest test × (text ≡ testLine test ++ rest)
 
 -- lines that are well formed
 pub record Formed (size : ℕ) (tests : List Test) : Type 0 where

@@ -1,13 +1,12 @@
 // The seven calls of `exports`, each made with the numbers of a request. Each element of a reply and of an output holds 77
 // before the call, so that one that is left shows.
-use crate::reading::NOWHERE;
-use crate::reading::bytes_at;
-use crate::reading::number_at;
-use crate::reading::part_at;
-use crate::reading::room_at;
-use crate::reading::rows_at;
-use crate::reading::wide;
 use libc::STDOUT_FILENO;
+use try_reading::NOWHERE;
+use try_reading::bytes_at;
+use try_reading::number_at;
+use try_reading::part_at;
+use try_reading::room_at;
+use try_reading::rows_at;
 ghost use mathlib.Core.Path.{_≡_};
 
 // A file, or the bits of the most rows.
@@ -275,7 +274,7 @@ fn say_codes(out: &[u64]) {
 fn say_bytes(out: &[u8]) {
     say_bar();
     for i in 0..out.len() {
-        say_number(wide(out[i]));
+        say_number(numbers::wide64(out[i]));
     }
     end_line();
 }

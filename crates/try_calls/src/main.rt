@@ -3,12 +3,11 @@
 // length and its elements, an output how many elements it has and how many of them are lent. The answer is the line up to
 // the colon, the numbers of the reply, and every element of the output. What must be printed is made by tests/calls.
 mod calls;
-mod reading;
 
 use libc::STDIN_FILENO;
 use libc::STDOUT_FILENO;
-use reading::behind;
-use reading::numbers_of;
+use try_reading::behind;
+use try_reading::numbers_of;
 
 // The requests that are taken in one run, in bytes. One more is lent, so that more show.
 const MOST_REQUESTS: usize = 1048576;

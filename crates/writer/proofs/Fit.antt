@@ -16,12 +16,12 @@ use Rattle.basis.proofs.Refusals.{none-when-accepted, each-fails}
 use Rattle.basis.proofs.Truth.{neither}
 use Rattle.codes.specs.Width.{unfitWidth, tooLarge}
 use Rattle.limits.specs.Limits.{mostRows, mostColumns}
-use Rattle.table.specs.Table.{widthOf, FitWidths, FitCodes, firstUnfit, firstTooLarge}
-use Rattle.writer.specs.Layout.{fileLength}
+use Rattle.table.specs.Table.{widthOf, FitWidths, FitCodes, firstUnfitWidth, firstTooLarge}
+use Rattle.filing.specs.Layout.{fileLength}
 use Rattle.writer.specs.Writing.{writeLines}
 use Rattle.writer.proofs.Writing as writing
 
-pub widths-fit : (widths : List ℕ) → (length widths ≡ 0 → ⊥) → length widths ≤ mostColumns → length widths ≤ firstUnfit widths →
+pub widths-fit : (widths : List ℕ) → (length widths ≡ 0 → ⊥) → length widths ≤ mostColumns → length widths ≤ firstUnfitWidth widths →
     FitWidths widths
 widths-fit widths present few fit =
     record {
@@ -48,7 +48,7 @@ module _ (rows : ℕ) (widths codes : List ℕ) (room : ℕ) where
       let four = neither (eqb (length widths) 0) (ltb mostColumns (length widths)) (line .1 .0) in
       let full = eqb-true (length codes) (rows * length widths) (not-false _ (line .1 .1 .1 .0)) in (
         widths-fit widths (eqb-false (length widths) 0 (four .0)) (ltb-false mostColumns (length widths) (four .1))
-            (ltb-false (firstUnfit widths) (length widths) (line .1 .1 .0)),
+            (ltb-false (firstUnfitWidth widths) (length widths) (line .1 .1 .0)),
         codes-fit rows widths codes (ltb-false mostRows rows (line .0)) full
             (ltb-false (firstTooLarge widths codes) (length codes) (line .1 .1 .1 .1 .0)),
         ltb-false room (fileLength rows widths) (line .1 .1 .1 .1 .1 .0),

@@ -1,5 +1,4 @@
 -- The laws of a written register and of writing it.
-pub mod Lengths
 pub mod Writing
 pub mod Fit
 pub mod SingleReply

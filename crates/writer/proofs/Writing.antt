@@ -16,8 +16,8 @@ use Rattle.basis.specs.Refusals.{firstLine}
 use Rattle.basis.proofs.Truth.{nor, agrees}
 use Rattle.basis.proofs.Refusals.{Past, at-first, passes, ends}
 use Rattle.limits.specs.Limits.{mostRows, mostColumns}
-use Rattle.table.specs.Table.{firstUnfit, firstTooLarge}
-use Rattle.writer.specs.Layout.{fileLength}
+use Rattle.table.specs.Table.{firstUnfitWidth, firstTooLarge}
+use Rattle.filing.specs.Layout.{fileLength}
 use Rattle.writer.specs.Writing.{writeLines}
 
 module _ (rows : ℕ) (widths codes : List ℕ) (room : ℕ) where
@@ -32,9 +32,9 @@ module _ (rows : ℕ) (widths codes : List ℕ) (room : ℕ) where
   unfolding writeLines
   few-columns past present h = passes past (nor _ _ (ne-eqb (length widths) 0 present) (le-ltb mostColumns (length widths) h))
 
-  pub all-fit : Passed 2 → length widths ≤ firstUnfit widths → Passed 3
+  pub all-fit : Passed 2 → length widths ≤ firstUnfitWidth widths → Passed 3
   unfolding writeLines
-  all-fit past h = passes past (le-ltb (firstUnfit widths) (length widths) h)
+  all-fit past h = passes past (le-ltb (firstUnfitWidth widths) (length widths) h)
 
   pub counted : Passed 3 → length codes ≡ rows * length widths → Passed 4
   unfolding writeLines

@@ -1,3 +1,2 @@
 -- The file of a register, and what writing it answers.
-pub mod Layout
 pub mod Writing

@@ -8,8 +8,8 @@ use Rattle.basis.specs.Refusals.{Line, refuse, refuseAt, refuseFor}
 use Rattle.limits.specs.Limits.{mostRows, mostColumns}
 use Rattle.answers.specs.declared.Answer.{Answer}
 use Rattle.answers.specs.Answers as answers
-use Rattle.table.specs.Table.{firstUnfit, firstTooLarge}
-use Rattle.writer.specs.Layout.{fileOf, fileLength}
+use Rattle.table.specs.Table.{firstUnfitWidth, firstTooLarge}
+use Rattle.filing.specs.Layout.{fileOf, fileLength}
 
 module _ (rows : ℕ) (widths codes : List ℕ) (room : ℕ) where
   -- 3: too many rows
@@ -22,7 +22,7 @@ module _ (rows : ℕ) (widths codes : List ℕ) (room : ℕ) where
   writeLines =
       refuse 3 (ltb mostRows rows)
       ∷ refuse 4 (eqb (length widths) 0 || ltb mostColumns (length widths))
-      ∷ refuseAt 6 (ltb (firstUnfit widths) (length widths)) (firstUnfit widths)
+      ∷ refuseAt 6 (ltb (firstUnfitWidth widths) (length widths)) (firstUnfitWidth widths)
       ∷ refuse 9 (not (eqb (length codes) (rows * length widths)))
       ∷ refuseAt 8 (ltb (firstTooLarge widths codes) (length codes)) (firstTooLarge widths codes)
       ∷ refuseFor 10 (ltb room (fileLength rows widths)) (fileLength rows widths)

@@ -3,7 +3,7 @@ use Prim.Native.Nat.{_<_}
 use mathlib.Core.Path.{_≡_, sym, ap₂, _∙_}
 use borrow.Author.Needs.{needs}
 use Rattle.codes.specs.Width.{tooLarge}
-use Rattle.register.specs.File.{columnsIn, widthIn}
+use Rattle.directory.specs.File.{columnsIn, widthIn}
 use Rattle.register.proofs.Fit.{columns-as-opened, width-as-opened}
 use Rattle.query.specs.Tests.{literalOf}
 use Rattle.asking.proofs.Judging as judging

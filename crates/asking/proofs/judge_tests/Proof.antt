@@ -9,7 +9,7 @@ use lib.Seq.{getD-take, length-take-le}
 use Rattle.basis.specs.Refusals.{firstLine}
 use Rattle.basis.proofs.Refusals.{Past, at-first, ends}
 use Rattle.query.specs.Tests.{emptySlot, testAt}
-use Rattle.asking.specs.Refusals.{testLines, testsLines}
+use Rattle.asking.specs.Refusals.{linesFor, linesForAll}
 use Rattle.asking.specs.Verdicts.{verdictOf}
 use Rattle.asking.proofs.Judging as judging
 use Rattle.asking.proofs.judge_tests.Statement.{statement}
@@ -17,7 +17,7 @@ use Rattle.asking.proofs.judge_tests.Tie as tie
 
 abbrev Inv-loop : tie.InvT-loop
 Inv-loop file shape count tests t₀ t =
-    (t ≤ count) × Past (testsLines file 0 (take count tests)) (testsLines file t (drop t (take count tests)))
+    (t ≤ count) × Past (linesForAll file 0 (take count tests)) (linesForAll file t (drop t (take count tests)))
 
 abbrev μ-loop : tie.MeasureT-loop
 μ-loop file shape count tests t₀ t = count - t
@@ -45,7 +45,7 @@ there c = rw (as-many (c .before)) (c .loop-test .taken)
 said : (c : tie.After-judge-test Inv-loop μ-loop) →
     let a = startOf (turnOf c .before) .args in
     let t = turnOf c .before .loop .t in
-    verdictOf (firstLine (testLines (a .file .now) t (testAt (take (a .count) (a .t3)) t))) ≡ c .judge-test .result
+    verdictOf (firstLine (linesFor (a .file .now) t (testAt (take (a .count) (a .t3)) t))) ≡ c .judge-test .result
 said c =
     let a = startOf (turnOf c .before) .args in
     rw (getD-take (a .count) (a .t3) (turnOf c .before .loop .t) emptySlot (turnOf c .loop-test .taken)) (sym (c .judge-test .ensures))
@@ -90,7 +90,7 @@ loop-again c =
     (omega arith, rw (add-one (turn .before .loop .t)) further)
 
 returns-2 : tie.Need-returns-2 Inv-loop μ-loop
-unfolding testsLines
+unfolding linesForAll
 returns-2 c =
     let turn = c .before in
     let start = startOf turn in

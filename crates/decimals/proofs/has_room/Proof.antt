@@ -11,11 +11,6 @@ use Rattle.decimals.proofs.has_room.Tie as tie
 returns : tie.Need-returns
 returns c =
     let given = c .before .args in
-    sym (le-leb (given .number * 10 + given .digit) (given .most) (omega arith))
-
-returns-2 : tie.Need-returns-2
-returns-2 c =
-    let given = c .before .before .args in
     let left = given .most - given .number * 10 in
     let longer = given .number * 10 + given .digit in
     ⊎-elim
@@ -23,10 +18,10 @@ returns-2 c =
     (λ (fits : given .digit ≤ left). le-leb _ _ fits ∙ sym (le-leb longer (given .most) (omega arith)))
     (within-or-past left (given .digit))
 
-returns-3 : tie.Need-returns-3
-returns-3 c =
-    let given = c .before .before .args in
-    lt-leb _ _ (c .if2 .left) ∙ sym (lt-leb (given .number * 10 + given .digit) (given .most) (omega arith))
+returns-2 : tie.Need-returns-2
+returns-2 c =
+    let given = c .before .args in
+    lt-leb _ _ (c .if1 .left) ∙ sym (lt-leb (given .number * 10 + given .digit) (given .most) (omega arith))
 
 pub has-room-spec : {M : Type 1} → statement M
-has-room-spec = tie.close (tie.spec returns (λ c. omega arith) (λ c. omega arith) returns-2 returns-3)
+has-room-spec = tie.close (tie.spec (λ c. omega arith) (λ c. omega arith) returns returns-2)

@@ -26,11 +26,11 @@ bound : (c : tie.After-byte-at) → c .before .before .args .most + 1 ≤ room
 bound c = omega arith
 
 -- the first digit
-abbrev firstOf : tie.After-wide → tie.After-byte-at
+abbrev firstOf : tie.After-wide64 → tie.After-byte-at
 firstOf c = c .before .before .before .before
 
-digit-here : (c : tie.After-wide) →
-    (getD (textAt (firstOf c)) (placeAt (firstOf c)) 0 ≡ digit (c .wide .result - 48)) × (c .wide .result - 48 < 10)
+digit-here : (c : tie.After-wide64) →
+    (getD (textAt (firstOf c)) (placeAt (firstOf c)) 0 ≡ digit (c .wide64 .result - 48)) × (c .wide64 .result - 48 < 10)
 digit-here c = omega arith
 
 returns : tie.Need-returns

@@ -12,7 +12,7 @@ use Rattle.basis.proofs.Buffers.{laid-each}
 use Rattle.register.specs.Cells.{codeAt}
 use Rattle.lookup.specs.LookingUp.{codesOf}
 use Rattle.register.proofs.Fit.{width-as-opened}
-use Rattle.lookup.proofs.Rows.{row-within, code-gathered}
+use Rattle.cells.proofs.Rows.{row-within, code-gathered}
 use Rattle.lookup.proofs.write_codes.Statement.{statement}
 use Rattle.lookup.proofs.write_codes.Tie as tie
 

@@ -8,10 +8,10 @@ use borrow.Author.Needs.{needs}
 use Rattle.limits.specs.Limits.{mostColumns, entryBytes, trailerBytes}
 use Rattle.register.specs.declared.Shape.{Shape}
 use Rattle.register.specs.declared.Opened.the-variants.{Register}
-use Rattle.register.specs.File.{directoryIn}
+use Rattle.directory.specs.File.{directoryIn}
 use Rattle.register.specs.Opening.{openedOf}
 use Rattle.register.proofs.Fit.{opened-is-fit, columns-as-opened}
-use Rattle.register.proofs.Directory.{entry-cut}
+use Rattle.directory.proofs.Entries.{entry-cut}
 use Rattle.register.proofs.entry_of.Statement.{statement}
 use Rattle.register.proofs.entry_of.Tie as tie
 

@@ -2,13 +2,13 @@
 use mathlib.Core.Path.{ap, _∙_}
 use borrow.Author.Needs.{needs}
 use Rattle.basis.specs.Numbers.{numberAt}
-use Rattle.register.specs.File.{offsetOf, offsetIn}
+use Rattle.directory.specs.File.{entryOffset, offsetIn}
 use Rattle.register.proofs.offset_at.Statement.{statement}
 use Rattle.register.proofs.offset_at.Tie as tie
 
 returns : tie.Need-returns
 unfolding offsetIn numberAt
-returns c = c .number-of .ensures .0 ∙ ap offsetOf (c .before .before .entry-of .ensures .0)
+returns c = c .number-of .ensures .0 ∙ ap entryOffset (c .before .before .entry-of .ensures .0)
 
 pub offset-at-spec : {M : Type 1} → statement M
 offset-at-spec =

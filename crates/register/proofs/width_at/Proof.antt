@@ -1,13 +1,13 @@
 -- `register::width_at` meets its contract: the first byte of the entry is the width. Assumes nothing.
 use mathlib.Core.Path.{ap}
 use borrow.Author.Needs.{needs}
-use Rattle.register.specs.File.{widthOf, widthIn}
+use Rattle.directory.specs.File.{entryWidth, widthIn}
 use Rattle.register.proofs.width_at.Statement.{statement}
 use Rattle.register.proofs.width_at.Tie as tie
 
 returns : tie.Need-returns
 unfolding widthIn
-returns c = ap widthOf (c .before .entry-of .ensures .0)
+returns c = ap entryWidth (c .before .entry-of .ensures .0)
 
 pub width-at-spec : {M : Type 1} → statement M
 width-at-spec = tie.close (tie.spec (λ c κs. search needs) (λ c. search needs) returns)

@@ -6,7 +6,7 @@ use mathlib.Core.Path.{_≡_, refl}
 use borrow.Author.Needs.{needs}
 use lib.ListN.{length}
 use Rattle.limits.specs.Limits.{mostRows, widest}
-use Rattle.register.specs.File.{rowsIn, widthIn}
+use Rattle.directory.specs.File.{rowsIn, widthIn}
 use Rattle.register.proofs.Fit.{rows-as-opened, few-rows-as-opened, width-as-opened}
 use Rattle.query.specs.Tests.{testAt}
 use Rattle.scan.proofs.WithinBounds.{found-rows, ones-at-most, counts-small, sums-small, matches-at-most, room-for-segment}

@@ -15,11 +15,11 @@ use Rattle.segment.proofs.high_of.Tie as tie
 -- in the last slice, what is computed is the high
 high-here : (c : tie.After-unit-of) →
     let a = c .before .before .before .before .before .args in
-    c .before .wide .result + (c .unit-of .result - 1) ≡ highOf (a .width) (a .slice) (byteOf (a .width) (a .literal) (a .slice))
+    c .before .wide64 .result + (c .unit-of .result - 1) ≡ highOf (a .width) (a .slice) (byteOf (a .width) (a .literal) (a .slice))
 high-here c =
     let sliced = c .before .before .before in
     let a = sliced .before .before .args in
-    rw (c .before .wide .ensures .0, c .unit-of .ensures, sliced .before .byte-of .ensures)
+    rw (c .before .wide64 .ensures .0, c .unit-of .ensures, sliced .before .byte-of .ensures)
     (sym (high-last (a .width) (a .slice) _ (omega (arith, sliced .slices-of .ensures, c .before .before .if1 .taken))))
 
 is-a-byte : (c : tie.After-unit-of) →

@@ -1,134 +1,25 @@
 -- `segment::scan_segment` meets its contract: the buffers hold what the schedule says after each slice and each test, and the
 -- slices end when no test counts one. Assumes nothing.
-use Prim.Native.Nat.{ℕ, _+_, _-_, _*_, _≤_, _<_}
+mod Turns
+use Prim.Native.Nat.{_+_, _*_}
 use native.Mathlib.Omega.{arith}
 use native.Mathlib.Numerals.{add-one}
-use mathlib.Core.Path.{_≡_, refl, sym}
+use mathlib.Core.Path.{_≡_, refl}
 use mathlib.Core.Logic.{⊎-elim}
-use mathlib.Core.List.{List}
-use mathlib.Core.Bool.{true}
 use borrow.Author.Needs.{needs}
-use lib.ListN.{length, getD, take, drop}
-use Rattle.limits.specs.Limits.{mostSlices, longestSegment}
+use Rattle.limits.specs.Limits.{longestSegment}
 use Rattle.basis.specs.Lists.{sum, below}
 use Rattle.basis.proofs.Lists.{sum-one-more}
-use Rattle.codes.specs.Width.{slicesOf}
-use Rattle.query.specs.declared.Test.{Test}
-use Rattle.segment.proofs.Work as work
-use Rattle.segment.proofs.Work.{Work, FitWork, takes, counted-few, takes-within}
-use Rattle.segment.proofs.Progress.{Progress, same-progress, begun, passed-over, taken, next-slice}
-use Rattle.segment.proofs.OpenRows.{openIn, open-at-most-one, none-open, some-open}
-use Rattle.segment.proofs.Ending.{Ended, ended-closed, ended-after-four, scanned}
-use Rattle.segment.proofs.Parts.{segment-fits, part-long}
-use Rattle.segment.proofs.Stepping.{has-slice, bytes-within, steps-right}
+use Rattle.segment.proofs.Work.{counted-few, takes-within}
+use Rattle.segment.proofs.Progress.{same-progress, begun, passed-over, taken, next-slice}
+use Rattle.segment.proofs.OpenRows.{openIn, none-open}
+use Rattle.segment.proofs.Ending.{scanned}
+use Rattle.segment.proofs.Stepping.{steps-right}
+use Rattle.segment.proofs.scan_segment.Proof.Turns.{Inv-rows, μ-rows, Inv-tests, μ-tests, Inv-slices, μ-slices, SomeOpen}
+use Rattle.segment.proofs.scan_segment.Proof.Turns.{workAt, fit, entryOf, sliceOf, testOf, rowsOf, so-far, at-most-one}
+use Rattle.segment.proofs.scan_segment.Proof.Turns.{turnOf, within, counts-it, room, long, entryBefore, ended}
 use Rattle.segment.proofs.scan_segment.Statement.{statement}
 use Rattle.segment.proofs.scan_segment.Tie as tie
-
--- the work on a segment, by the parameters
-abbrev workOf : List ℕ → ℕ → ℕ → List Test → ℕ → Work
-workOf file first n tests count = record { file = file; tests = tests; count = count; first = first; n = n }
-
-abbrev Inv-rows : tie.InvT-rows
-Inv-rows file rows first n tests count offsets slices lows highs standings inside counts j closed t base open₀ r₀ «open» r =
-    (r ≤ n) × («open» ≤ r) × («open» ≡ sum (openIn standings base inside) (below r))
-
-abbrev μ-rows : tie.MeasureT-rows
-μ-rows file rows first n tests count offsets slices lows highs standings inside counts j closed t base open₀ r₀ «open» r = n - r
-
-abbrev Inv-tests : tie.InvT-tests
-Inv-tests file rows first n tests count offsets slices lows highs standings₀ inside counts₀ j closed₀ t₀ standings counts closed t =
-    (t ≤ count) × Progress (workOf file first n tests count) j t standings inside counts closed
-
-abbrev μ-tests : tie.MeasureT-tests
-μ-tests file rows first n tests count offsets slices lows highs standings₀ inside counts₀ j closed₀ t₀ standings counts closed t =
-    count - t
-
-abbrev Inv-slices : tie.InvT-slices
-Inv-slices file rows first n tests count offsets slices lows highs standings₀ inside₀ counts₀ j₀ standings inside counts j =
-    (j ≤ mostSlices) × Progress (workOf file first n tests count) j 0 standings inside counts true
-
-abbrev μ-slices : tie.MeasureT-slices
-μ-slices file rows first n tests count offsets slices lows highs standings₀ inside₀ counts₀ j₀ standings inside counts j = mostSlices - j
-
--- the places that the facts below speak of: the entry, a turn of the loop over the tests, a row counted, some row found open
-abbrev Entry : Type 0
-Entry = tie.Start Inv-rows μ-rows Inv-tests μ-tests Inv-slices μ-slices
-
-abbrev Turn : Type 0
-Turn = tie.In-tests Inv-rows μ-rows Inv-tests μ-tests Inv-slices μ-slices
-
-abbrev RowCounted : Type 0
-RowCounted = tie.After-open-row Inv-rows μ-rows Inv-tests μ-tests Inv-slices μ-slices
-
-abbrev SomeOpen : Type 0
-SomeOpen = tie.Then2 Inv-rows μ-rows Inv-tests μ-tests Inv-slices μ-slices
-
--- the work on the segment, which is fit
-abbrev workAt : Entry → Work
-workAt c = workOf (c .args .file .now) (c .args .first) (c .args .n) (c .args .tests) (c .args .count)
-
-fit : (c : Entry) → FitWork (workAt c)
-fit c = segment-fits (c .pre .0) (omega arith)
-
--- of a turn: the entry, the slice, the test, the rows that are in, and how far the work has come
-abbrev entryOf : Turn → Entry
-entryOf c = c .before .before .before .before .before .before
-
-abbrev sliceOf : Turn → ℕ
-sliceOf c = c .before .before .before .slices .j
-
-abbrev testOf : Turn → ℕ
-testOf c = c .before .tests .t
-
-abbrev rowsOf : Turn → List ℕ
-rowsOf c = c .before .before .before .slices .inside
-
-so-far : (c : Turn) →
-    let tests = c .before .tests in
-    Progress (workAt (entryOf c)) (sliceOf c) (testOf c) (tests .standings) (rowsOf c) (tests .counts) (tests .closed)
-so-far c = c .before .tests .inv .1
-
--- a row adds at most 1 to the rows that are open
-at-most-one : (c : RowCounted) → c .open-row .result ≤ 1
-at-most-one c =
-    let turn = c .before .before .before .before .before in
-    rw (c .open-row .ensures)
-    (search (open-at-most-one (so-far turn) (turn .tests-test .taken), c .before .rows-test .taken))
-
--- where some row is open: the turn, and where the segment's bytes of the slice begin
-abbrev turnOf : SomeOpen → Turn
-turnOf c = c .before .before .before .before .before
-
-abbrev fromOf : SomeOpen → ℕ
-fromOf c =
-    let args = entryOf (turnOf c) .args in
-    getD (args .offsets .now) (testOf (turnOf c)) 0 + sliceOf (turnOf c) * args .rows + args .first
-
--- the test has the slice,
-within : (c : SomeOpen) → sliceOf (turnOf c) < slicesOf (work.testOf (workAt (entryOf (turnOf c))) (testOf (turnOf c)) .width)
-within c =
-    let turn = turnOf c in
-    let pre = entryOf turn .pre in
-    has-slice (pre .0) (pre .1) (testOf turn) (sliceOf turn) (turn .tests-test .taken) (c .before .before .before .if1 .taken)
-
--- the slice counts for it,
-counts-it : (c : SomeOpen) → takes (workAt (entryOf (turnOf c))) (testOf (turnOf c)) (sliceOf (turnOf c)) ≡ true
-counts-it c =
-    let turn = turnOf c in
-    let rows = c .before .before .rows in
-    some-open (so-far turn) (turn .tests-test .taken) (rows .«open») (rows .r) (rows .inv .2) (omega arith) (c .if2 .taken) (within c)
-
--- and the bytes lie in the file, so many of them
-room : (c : SomeOpen) → fromOf c + entryOf (turnOf c) .args .n ≤ length (entryOf (turnOf c) .args .file .now)
-room c =
-    let turn = turnOf c in
-    let pre = entryOf turn .pre in
-    bytes-within (pre .0) (pre .1) (testOf turn) (sliceOf turn) (turn .tests-test .taken) (within c) (omega (arith, c .if2 .taken))
-
-long : (c : SomeOpen) →
-    let args = entryOf (turnOf c) .args in
-    length (take (fromOf c + args .n - fromOf c) (drop (fromOf c) (args .file .now))) ≡ args .n
-long c = part-long _ _ _ (room c)
 
 in-rows-requires : tie.Need-in-rows-requires Inv-rows μ-rows Inv-tests μ-tests Inv-slices μ-slices
 in-rows-requires c κs = c .before .pre .0 .short
@@ -218,23 +109,6 @@ slices-again c =
     let tests = c .before .before .before .before .before .tests in
     let entry = c .before .before .before .before .before .before .before .before .before .before in
     (omega arith, next-slice (fit entry) (omega arith) (tests .inv .1) (c .rule-all .ensures))
-
--- where the loop over the slices is left, by its test or because all tests are closed
-abbrev SlicesLeft : Type 0
-SlicesLeft = tie.Left-slices Inv-rows μ-rows Inv-tests μ-tests Inv-slices μ-slices
-
-abbrev entryBefore : SlicesLeft → Entry
-entryBefore c = c .before .before .before .before
-
-ended : (c : SlicesLeft) →
-    Ended (workAt (entryBefore c)) (c .slices-test .standings) (c .before .slices .inside) (c .slices-test .counts)
-ended c =
-    ⊎-elim
-    (λ w. ended-after-four (fit (entryBefore c)) (w .0 .left) (same-progress (w .1) (w .2) refl (c .before .slices .inv .1)))
-    (λ w.
-    ended-closed (fit (entryBefore c)) (omega (arith, w .1 .inv .0, w .2 .left))
-    (same-progress (w .4) (w .5) (sym (w .3 .taken)) (w .1 .inv .1)))
-    (c .slices-test .came)
 
 last-all-requires :
     tie.Need-last-all-requires Inv-rows μ-rows Inv-tests μ-tests Inv-slices μ-slices

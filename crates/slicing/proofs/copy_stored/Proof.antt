@@ -9,7 +9,7 @@ use Rattle.limits.specs.Limits.{fourBytes}
 use Rattle.codes.specs.Width.{padOf}
 use Rattle.codes.specs.Bytes.{storedOf}
 use Rattle.table.specs.Table.{widthOf, codeOf}
-use Rattle.table.specs.Judging.{Holds}
+use Rattle.table.specs.ManyAtOnce.{Holds}
 use Rattle.table.proofs.Columns.{code-there, stored-small}
 use Rattle.table.proofs.Holding.{holds-nothing, holds-one-more}
 use Rattle.slicing.proofs.copy_stored.Statement.{statement}

@@ -13,7 +13,7 @@ use lib.ListN.{length, getD}
 use Rattle.basis.proofs.Places.{first-is-none}
 use Rattle.codes.specs.Width.{tooLarge}
 use Rattle.table.specs.Table.{widthOf}
-use Rattle.table.specs.Judging.{Holds}
+use Rattle.table.specs.ManyAtOnce.{Holds}
 use Rattle.table.proofs.AtOnce.{below-fits}
 use Rattle.table.proofs.PartByPart.{none-in-part, first-in-part}
 use Rattle.table.proofs.first_too_large.Statement.{statement}

@@ -3,7 +3,7 @@ use Prim.Native.Nat.{_-_, _≤_}
 use native.Mathlib.Omega.{arith}
 use mathlib.Core.Path.{_≡_}
 use borrow.Author.Needs.{needs}
-use Rattle.table.specs.Judging.{Raised}
+use Rattle.table.specs.ManyAtOnce.{Raised}
 use Rattle.table.proofs.AtOnce.{raised-nothing, raised-one-more}
 use Rattle.table.proofs.join_codes.Statement.{statement}
 use Rattle.table.proofs.join_codes.Tie as tie

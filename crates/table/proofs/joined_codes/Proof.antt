@@ -5,7 +5,7 @@ use native.Mathlib.Nat.{mul-le-mul-right}
 use mathlib.Core.Path.{_≡_, refl, _∙_}
 use lib.ListN.{length}
 use Rattle.limits.specs.Limits.{longestPeriod}
-use Rattle.table.specs.Judging.{Covers}
+use Rattle.table.specs.ManyAtOnce.{Covers}
 use Rattle.table.proofs.AtOnce.{covers-nothing, covers-one-more}
 use Rattle.table.proofs.joined_codes.Statement.{statement}
 use Rattle.table.proofs.joined_codes.Tie as tie

@@ -9,7 +9,7 @@ use lib.Pow.{shl-exact}
 use lib.ListN.{length, length-set}
 use Rattle.limits.specs.Limits.{widest}
 use Rattle.table.specs.Table.{widthOf}
-use Rattle.table.specs.Judging.{Holds}
+use Rattle.table.specs.ManyAtOnce.{Holds}
 use Rattle.table.proofs.Columns.{narrow}
 use Rattle.table.proofs.Holding.{holds-nothing, holds-one-more}
 use Rattle.table.proofs.limits_of.Statement.{statement}

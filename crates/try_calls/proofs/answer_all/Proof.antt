@@ -3,7 +3,7 @@ use Prim.Native.Nat.{_-_, _≤_}
 use mathlib.Core.Path.{_≡_}
 use native.Mathlib.Omega.{arith}
 use lib.ListN.{length}
-use Rattle.try_calls.proofs.Requests.{rest-length}
+use Rattle.try_reading.proofs.Requests.{rest-length}
 use borrow.Author.Needs.{needs}
 use Rattle.try_calls.proofs.answer_all.Statement.{statement}
 use Rattle.try_calls.proofs.answer_all.Tie as tie

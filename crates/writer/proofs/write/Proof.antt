@@ -1,21 +1,19 @@
 -- `writer::write` meets its contract: each test of the code is a line of the table, in its order, and past all of them the
 -- file is written. Assumes nothing.
-use Prim.Native.Nat.{ℕ, _+_, _*_, _≤_}
+use Prim.Native.Nat.{ℕ, _≤_}
 use native.Mathlib.Omega.{arith}
-use mathlib.Core.Path.{_≡_, ap}
+use mathlib.Core.Path.{ap}
 use borrow.Author.Needs.{needs}
 use borrow.Author.Tests.{lt-ltb, eq-eqb}
 use lib.Dec.{eqb}
 use lib.ListN.{length}
-use Rattle.limits.specs.Limits.{mostRows, mostColumns, mostSlices, entryBytes, trailerBytes}
+use Rattle.limits.specs.Limits.{mostColumns}
 use Rattle.basis.proofs.Truth.{left-holds, right-holds, differs}
 use Rattle.basis.proofs.Refusals.{at-first, stops}
 use Rattle.answers.specs.declared.Answer.the-variants.{Elements}
 use Rattle.answers.proofs.Replies.{refused-by, accepted-by}
-use Rattle.register.specs.Layout.{bytesBefore}
-use Rattle.register.proofs.Directory.{few-bytes}
-use Rattle.table.specs.Table.{widthOf, FitWidths, FitCodes, firstUnfit, firstTooLarge}
-use Rattle.writer.specs.Layout.{fileLength}
+use Rattle.directory.proofs.Entries.{few-bytes}
+use Rattle.table.specs.Table.{FitWidths, FitCodes, firstUnfitWidth, firstTooLarge}
 use Rattle.writer.specs.Writing.{writeLines}
 use Rattle.writer.proofs.Fit.{widths-fit, codes-fit}
 use Rattle.writer.proofs.Writing as writing
@@ -51,7 +49,7 @@ past-3 c = writing.few-rows _ _ _ _ (c .if1 .left)
 past-4 : (c : tie.Else3) → Passed (start-4 c) 2
 past-4 c = writing.few-columns _ _ _ _ (past-3 (c .before .before)) (c .before .if2 .left) (c .if3 .left)
 
-none-unfit : (c : tie.Else4) → length (start-6 c .args .widths .now) ≤ firstUnfit (start-6 c .args .widths .now)
+none-unfit : (c : tie.Else4) → length (start-6 c .args .widths .now) ≤ firstUnfitWidth (start-6 c .args .widths .now)
 none-unfit c = omega (arith, c .before .first-unfit .ensures, c .if4 .left)
 
 past-6 : (c : tie.Else4) → Passed (start-6 c) 3
@@ -78,29 +76,6 @@ fit-codes c =
     let full = c .before .before in
     let few = full .before .before .before .before .before in
     codes-fit _ _ _ (few .if1 .left) (full .if5 .left) (none-large c)
-
--- where the body ends, which is the directory's offset, and how long the file is
-abbrev start-10 : tie.After-slices-in → tie.Start
-start-10 c = start-8 (c .before)
-
-abbrev bodyAt : tie.After-slices-in → ℕ
-bodyAt c = start-10 c .args .rows * c .slices-in .result
-
-body-end : (c : tie.After-slices-in) →
-    let args = start-10 c .args in bodyAt c ≡ bytesBefore (args .rows) (widthOf (args .widths .now)) (length (args .widths .now))
-body-end c = ap (λ (slices : ℕ). start-10 c .args .rows * slices) (c .slices-in .ensures .0)
-
-file-end : (c : tie.After-slices-in) →
-    let widths = start-10 c .args .widths .now in
-    bodyAt c + entryBytes * length widths + trailerBytes ≡ fileLength (start-10 c .args .rows) widths
-unfolding fileLength
-file-end c = omega (arith, body-end c)
-
--- neither wraps
-small : (c : tie.After-slices-in) → bodyAt c ≤ mostRows * (mostSlices * mostColumns)
-small c =
-    few-bytes _ (c .slices-in .result) mostColumns (fit-codes (c .before) .few-rows) (omega (arith, c .slices-in .ensures .1))
-    (omega arith)
 
 returns : tie.Need-returns
 unfolding writeLines
@@ -149,38 +124,30 @@ returns-6 c =
     let large = lt-ltb _ _ (rw first at (c .before .if6 .taken)) in
     refused-by _ _ _ _ (stops (past-9 (found .before)) large) (rw first at (c .refused6 .ensures))
 
-slices-in-requires : tie.Need-slices-in-requires
-slices-in-requires c κs = fit-widths (c .before .before .before)
-
-mul-body : tie.Need-mul-body
-mul-body c = omega (arith, small c)
-
-add-need : tie.Need-add-need
-add-need c = omega (arith, small c, fit-widths (c .before .before .before .before) .few)
-
-add-need-2 : tie.Need-add-need-2
-add-need-2 c = omega (arith, small c, fit-widths (c .before .before .before .before) .few)
+file-length-requires : tie.Need-file-length-requires
+file-length-requires c κs = (fit-widths (c .before .before .before), fit-codes c .few-rows)
 
 returns-7 : tie.Need-returns-7
 unfolding writeLines
 returns-7 c =
     let counted = c .before .before in
-    let end = file-end counted in
+    let end = counted .file-length .ensures in
     let short = lt-ltb _ _ (rw end at (c .before .if7 .taken)) in
     refused-by _ _ _ _ (stops (past-8 (counted .before)) short) (rw end at (c .refused7 .ensures))
 
-write-parts-requires : tie.Need-write-parts-requires
-write-parts-requires c κs =
+write-file-requires : tie.Need-write-file-requires
+write-file-requires c κs =
     let counted = c .before .before in
-    (fit-widths (counted .before .before .before .before), (fit-codes (counted .before), (body-end counted, c .before .if7 .left)))
+    let fit = counted .before in
+    (fit-widths (fit .before .before .before), (fit-codes fit, omega (arith, counted .file-length .ensures, c .before .if7 .left)))
 
 returns-8 : tie.Need-returns-8
 returns-8 c =
     let call = c .before .before in
     let room = call .before .before in
-    let end = file-end (room .before) in
-    accepted-by _ _ _ _ (writing.none-answers _ _ _ _ (past-8 (room .before .before)) (omega (arith, room .if7 .left))) (ap Elements end)
-    (call .write-parts .ensures)
+    let end = room .before .file-length .ensures in
+    accepted-by _ _ _ _ (writing.none-answers _ _ _ _ (past-8 (room .before .before)) (omega (arith, end, room .if7 .left)))
+    (ap Elements end) (call .write-file .ensures)
 
 pub write-spec : {M : Type 1} → statement M
 write-spec =
@@ -201,13 +168,9 @@ write-spec =
     first-too-large-requires
     (λ c κs. search needs)
     returns-6
-    slices-in-requires
-    mul-body
-    (λ c. search needs)
-    add-need
-    add-need-2
+    file-length-requires
     (λ c κs. search needs)
     returns-7
-    write-parts-requires
+    write-file-requires
     (λ c. search needs)
     returns-8)

@@ -1,0 +1,2 @@
+-- What an opened file says of a row.
+pub mod Rows

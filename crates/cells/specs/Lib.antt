@@ -1,0 +1,2 @@
+-- A row's bytes in a column.
+pub mod Gathered

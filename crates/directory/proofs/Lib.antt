@@ -1,0 +1,2 @@
+-- The laws of a directory, entry by entry.
+pub mod Entries

@@ -1,0 +1,2 @@
+-- The file of a register.
+pub mod Layout

@@ -1,0 +1,2 @@
+-- What is found for a listing.
+pub mod Finding

@@ -1,2 +1,0 @@
--- What the steps of the listing program answer.
-pub mod Printing

@@ -1,0 +1,2 @@
+-- What the steps of printing a listing answer.
+pub mod Printing

@@ -1,0 +1,2 @@
+-- What one write does.
+pub mod Putting

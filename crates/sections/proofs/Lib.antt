@@ -1,0 +1,2 @@
+-- A run of lines grows by one.
+pub mod OneMore

@@ -1,0 +1,2 @@
+-- The lines of a listing that come in runs.
+pub mod Sections

@@ -1,0 +1,2 @@
+-- The promise of asking for widths.
+pub mod SingleReply

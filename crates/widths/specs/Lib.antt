@@ -1,0 +1,2 @@
+-- What asking for the widths of a register does.
+pub mod Widths
