@@ -1,4 +1,4 @@
--- The listing, what is found for it, and what the program prints of its inputs.
+-- The listing, what is written of what was found, and what the program prints of its inputs.
 pub mod Listing
 pub mod Found
 pub mod Inputs

@@ -1,6 +1,8 @@
 // The seven calls of `exports`, each made with the numbers of a request. Each element of a reply and of an output holds 77
 // before the call, so that one that is left shows.
 use libc::STDOUT_FILENO;
+use limits::MOST_BITS;
+use limits::MOST_ROWS;
 use try_reading::NOWHERE;
 use try_reading::bytes_at;
 use try_reading::number_at;
@@ -10,13 +12,13 @@ use try_reading::rows_at;
 ghost use mathlib.Core.Path.{_≡_};
 
 // A file, or the bits of the most rows.
-const MOST_BYTES: usize = 131072;
+const MOST_BYTES: usize = MOST_BITS;
 
 // Any other slice, and all but the largest outputs.
 const MOST_ELEMENTS: usize = 4096;
 
 // The list of the most rows, and an element more.
-const MOST_LISTED: usize = 1048577;
+const MOST_LISTED: usize = MOST_ROWS + 1;
 
 // A file.
 pub fn open(numbers: &[u64]) {
