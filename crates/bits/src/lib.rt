@@ -2,15 +2,13 @@
 // rows found in a segment packed into them.
 use limits::LONGEST_SEGMENT;
 ghost use mathlib.Core.Path.{_≡_};
-ghost use Prim.Native.Nat.{_+_, _*_, _≤_, _<_};
+ghost use Prim.Native.Nat.{_+_, _*_, _≤_};
 ghost use lib.Dec.{eqb};
 ghost use lib.ListN.{length, getD};
-ghost use Rattle.limits.specs.Limits.{longestSegment, mostRows};
-ghost use Rattle.basis.specs.Lists.{sum, below};
-ghost use Rattle.basis.specs.Buffers.{laid};
-ghost use Rattle.bits.specs.Bits.{bytesFor, bitsAt, bitsOf, FoundRows};
+ghost use Rattle.limits.specs.Limits.{mostRows};
+ghost use Rattle.bits.specs.Bits.{bytesFor, bitsAt, EightRows, OnesOfRows, BitsFit, BitsPut};
 ghost use Rattle.bits.specs.Marked.{marked, markedBelow, markedPast, unfitBits};
-ghost use Rattle.bits.specs.SetBits.{placesIn, placesOf, WordRead};
+ghost use Rattle.bits.specs.SetBits.{placesOf, OnesIn, WordFits, WordRead};
 
 // How many bytes the bits of so many rows take.
 pub fn bytes_for(rows: usize) -> usize
@@ -71,7 +69,7 @@ pub fn count_rows(bits: &[u8]) -> usize
 
 // The word of so many bytes from a place on: its set bits are the rows marked there.
 pub fn word_at(bits: &[u8], i: usize, many: usize) -> usize
-    requires { ⌜ (many ≤ 8) × (i + many ≤ length (now bits)) ⌝ }
+    requires { ⌜ WordFits (now bits) i many ⌝ }
     ensures { λ r. ⌜ WordRead (now (bits .entry)) i many r ⌝ }
 {
     let end = i + many;
@@ -80,7 +78,7 @@ pub fn word_at(bits: &[u8], i: usize, many: usize) -> usize
 
 // How many bits of a word are set.
 fn ones_in(word: usize) -> usize
-    ensures { λ r. ⌜ (r ≡ length (placesIn 64 word)) × (r ≤ 64) ⌝ }
+    ensures { λ r. ⌜ OnesIn word r ⌝ }
 {
     usize::count_ones(word) as usize
 }
@@ -94,9 +92,8 @@ pub fn ones_of(byte: u8) -> usize
 
 // Writes the bits of a segment's n rows from a byte of the result on, and answers how many are set.
 pub fn put_bits(found: &[u8; LONGEST_SEGMENT], n: usize, result: &mut [u8], at: usize) -> usize
-    requires { ⌜ FoundRows (now found) n × (at + bytesFor n ≤ length (now result)) ⌝ }
-    ensures matches { λ r. ⌜ r ≡ sum (λ k. getD (now (found .entry)) k 0) (below n) ⌝ }
-    ensures left { λ _. ⌜ now (result .exit) ≡ laid (now (result .entry)) at (bitsOf (λ k. eqb (getD (now (found .entry)) k 0) 1) n) ⌝ }
+    requires { ⌜ BitsFit (now found) n at (now result) ⌝ }
+    ensures { λ r. ⌜ BitsPut (now (found .entry)) n at (now (result .entry)) (now (result .exit)) r ⌝ }
 {
     let mut matches: usize = 0;
     let mut i = 0;
@@ -110,7 +107,7 @@ pub fn put_bits(found: &[u8; LONGEST_SEGMENT], n: usize, result: &mut [u8], at: 
 
 // The byte of eight rows from a place on: the first is the least significant bit.
 fn byte_of_rows(found: &[u8; LONGEST_SEGMENT], at: usize) -> u8
-    requires { ⌜ FoundRows (now found) longestSegment × (at + 8 ≤ longestSegment) ⌝ }
+    requires { ⌜ EightRows (now found) at ⌝ }
     ensures { λ r. ⌜ r ≡ bitsAt (λ k. eqb (getD (now (found .entry)) (at + k) 0) 1) 8 0 ⌝ }
 {
     found[at]
@@ -125,8 +122,8 @@ fn byte_of_rows(found: &[u8; LONGEST_SEGMENT], at: usize) -> u8
 
 // How many of eight rows from a place on are found.
 fn ones_of_rows(found: &[u8; LONGEST_SEGMENT], at: usize) -> usize
-    requires { ⌜ FoundRows (now found) longestSegment × (at + 8 ≤ longestSegment) ⌝ }
-    ensures { λ r. ⌜ (r ≡ sum (λ k. getD (now (found .entry)) (at + k) 0) (below 8)) × (r ≤ 8) ⌝ }
+    requires { ⌜ EightRows (now found) at ⌝ }
+    ensures { λ r. ⌜ OnesOfRows (now (found .entry)) at r ⌝ }
 {
     let mut ones: usize = 0;
     let mut k = 0;

@@ -3,21 +3,19 @@ mod table;
 
 use table::POSITIONS;
 ghost use mathlib.Core.Path.{_≡_};
-ghost use Prim.Native.Nat.{_+_, _*_, _≤_, _<_};
+ghost use Prim.Native.Nat.{_*_};
 ghost use lib.ListN.{length, getD};
 ghost use mathlib.Core.List.{map};
-ghost use Rattle.limits.specs.Limits.{mostRows, fourBytes};
 ghost use Rattle.basis.specs.Lists.{below};
 ghost use Rattle.basis.specs.Buffers.{laid};
 ghost use Rattle.bits.specs.Marked.{markedBelow};
-ghost use Rattle.bits.specs.SetBits.{placesIn, placesOf};
-ghost use Rattle.positions.specs.Places.{HoldsPlaces};
-ghost use Rattle.positions.specs.Steps.{rowAt, BytePut, WordPut};
+ghost use Rattle.bits.specs.SetBits.{placesOf};
+ghost use Rattle.positions.specs.Steps.{rowAt, RowsFit, RowsByTable, WordByTable, ByteByTable};
+ghost use Rattle.positions.specs.Steps.{EntriesByTable, EntryByTable, PlaceRead, BytePut, WordPut};
 
 // Writes the rows of all set bits, of which there are so many, to the front, byte after byte.
 pub fn write_rows(bits: &[u8], all: usize, out: &mut [u32])
-    requires { ⌜ length (now bits) ≤ mostRows ⌝ }
-    requires { ⌜ (all ≡ length (markedBelow (8 * length (now bits)) (now bits))) × (all ≤ length (now out)) ⌝ }
+    requires { ⌜ RowsFit (now bits) all (now out) ⌝ }
     ensures { λ _. ⌜ now (out .exit) ≡ laid (now (out .entry)) 0 (markedBelow (8 * length (now (bits .entry))) (now (bits .entry))) ⌝ }
 {
     let positions = POSITIONS;
@@ -26,8 +24,7 @@ pub fn write_rows(bits: &[u8], all: usize, out: &mut [u32])
 
 // Writes them by the table. Where they are so few that five bytes of six are 0 it leaves those out.
 fn write_by(positions: &[u8; 2048], bits: &[u8], all: usize, out: &mut [u32])
-    requires { ⌜ HoldsPlaces (now positions) × (length (now bits) ≤ mostRows) ⌝ }
-    requires { ⌜ (all ≡ length (markedBelow (8 * length (now bits)) (now bits))) × (all ≤ length (now out)) ⌝ }
+    requires { ⌜ RowsByTable (now positions) (now bits) all (now out) ⌝ }
     ensures { λ _. ⌜ now (out .exit) ≡ laid (now (out .entry)) 0 (markedBelow (8 * length (now (bits .entry))) (now (bits .entry))) ⌝ }
 {
     if all < bits.len() / 6 {
@@ -39,8 +36,7 @@ fn write_by(positions: &[u8; 2048], bits: &[u8], all: usize, out: &mut [u32])
 
 // Writes them eight bytes at a time, without the bytes of 0.
 fn write_words(positions: &[u8; 2048], bits: &[u8], all: usize, out: &mut [u32])
-    requires { ⌜ HoldsPlaces (now positions) × (length (now bits) ≤ mostRows) ⌝ }
-    requires { ⌜ (all ≡ length (markedBelow (8 * length (now bits)) (now bits))) × (all ≤ length (now out)) ⌝ }
+    requires { ⌜ RowsByTable (now positions) (now bits) all (now out) ⌝ }
     ensures { λ _. ⌜ now (out .exit) ≡ laid (now (out .entry)) 0 (markedBelow (8 * length (now (bits .entry))) (now (bits .entry))) ⌝ }
 {
     let mut at: usize = 0;
@@ -64,8 +60,7 @@ fn put_word(
     at: usize,
     all: usize,
 ) -> usize
-    requires { ⌜ HoldsPlaces (now positions) × (first + 512 < fourBytes) ⌝ }
-    requires { ⌜ (at + length (placesIn 64 word) ≤ all) × (all ≤ length (now out)) ⌝ }
+    requires { ⌜ WordByTable (now positions) word first at all (now out) ⌝ }
     ensures { λ r. ⌜ WordPut word first at all (now (out .entry)) (now (out .exit)) r ⌝ }
 {
     let mut next = at;
@@ -87,8 +82,7 @@ fn put_word(
 
 // Writes them with a turn for every byte.
 fn write_bytes(positions: &[u8; 2048], bits: &[u8], all: usize, out: &mut [u32])
-    requires { ⌜ HoldsPlaces (now positions) × (length (now bits) ≤ mostRows) ⌝ }
-    requires { ⌜ (all ≡ length (markedBelow (8 * length (now bits)) (now bits))) × (all ≤ length (now out)) ⌝ }
+    requires { ⌜ RowsByTable (now positions) (now bits) all (now out) ⌝ }
     ensures { λ _. ⌜ now (out .exit) ≡ laid (now (out .entry)) 0 (markedBelow (8 * length (now (bits .entry))) (now (bits .entry))) ⌝ }
 {
     let mut at: usize = 0;
@@ -114,8 +108,7 @@ fn put_byte(
     at: usize,
     all: usize,
 )
-    requires { ⌜ HoldsPlaces (now positions) × (many ≡ length (placesOf byte)) ⌝ }
-    requires { ⌜ (first + 256 < fourBytes) × (at + many ≤ all) × (all ≤ length (now out)) ⌝ }
+    requires { ⌜ ByteByTable (now positions) byte many first at all (now out) ⌝ }
     ensures { λ _. ⌜ BytePut byte first at all (now (out .entry)) (now (out .exit)) ⌝ }
 {
     if at + 8 <= all {
@@ -135,8 +128,7 @@ fn write_places(
     out: &mut [u32],
     at: usize,
 )
-    requires { ⌜ HoldsPlaces (now positions) × (many ≤ 8) ⌝ }
-    requires { ⌜ (first + 256 < fourBytes) × (at + many ≤ length (now out)) ⌝ }
+    requires { ⌜ EntriesByTable (now positions) many first at (now out) ⌝ }
     ensures { λ _. ⌜ now (out .exit) ≡ laid (now (out .entry)) at (map (rowAt byte first) (below many)) ⌝ }
 {
     let mut k = 0;
@@ -148,14 +140,14 @@ fn write_places(
 
 // The place of a byte's set bit number k, by the table.
 fn position(positions: &[u8; 2048], byte: u8, k: usize) -> u32
-    requires { ⌜ HoldsPlaces (now positions) × (k < 8) ⌝ }
-    ensures { λ r. ⌜ (r ≡ getD (placesOf byte) k 0) × (r < 256) ⌝ }
+    requires { ⌜ EntryByTable (now positions) k ⌝ }
+    ensures { λ r. ⌜ PlaceRead (getD (placesOf byte) k 0) r ⌝ }
 {
     row_number(positions[8 * numbers::wide(byte) + k])
 }
 
 fn row_number(place: u8) -> u32
-    ensures { λ r. ⌜ (r ≡ place) × (r < 256) ⌝ }
+    ensures { λ r. ⌜ PlaceRead place r ⌝ }
 {
     place as u32
 }

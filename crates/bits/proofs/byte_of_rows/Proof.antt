@@ -11,14 +11,14 @@ use Rattle.bits.proofs.byte_of_rows.Tie as tie
 
 -- each place holds 0 or 1, so all eight with their weights fit a byte
 few : (c : tie.Start) (k : ℕ) → getD (c .args .found .now) (c .args .at + k) 0 ≤ 1
-few c k = c .pre .0 .each (c .args .at + k)
+few c k = c .pre .found .each (c .args .at + k)
 
 whole : (c : tie.Start) →
     let place : ℕ → ℕ = λ k. getD (c .args .found .now) (c .args .at + k) 0 in
     getD (c .args .found .now) (c .args .at) 0
     + 2 * place 1 + 4 * place 2 + 8 * place 3 + 16 * place 4 + 32 * place 5 + 64 * place 6 + 128 * place 7 ≤ 255
 whole c =
-    omega (arith, c .pre .0 .each (c .args .at), few c 1, few c 2, few c 3, few c 4, few c 5, few c 6, few c 7)
+    omega (arith, c .pre .found .each (c .args .at), few c 1, few c 2, few c 3, few c 4, few c 5, few c 6, few c 7)
 
 mul-result : tie.Need-mul-result
 mul-result c = omega (arith, whole (c .before .before))

@@ -19,26 +19,20 @@ loop-holds : tie.Need-loop-holds Inv-loop μ-loop
 unfolding markedBelow
 loop-holds c = (omega arith, refl, omega arith)
 
-word-at-requires : tie.Need-word-at-requires Inv-loop μ-loop
-word-at-requires c κs = (omega arith, omega arith)
-
 add-many : tie.Need-add-many Inv-loop μ-loop
-add-many c = omega (arith, c .ones-in .ensures .1)
+add-many c = omega (arith, c .ones-in .ensures .few)
 
 loop-again : tie.Need-loop-again Inv-loop μ-loop
 loop-again c =
     let turn = c .before .before .before .loop in
     let word = c .before .word-at in (
       omega arith,
-      omega (arith, turn .inv .1, c .ones-in .ensures .0, count-of-word (word .ensures)),
-      omega (arith, c .ones-in .ensures .1),
+      omega (arith, turn .inv .1, c .ones-in .ensures .counted, count-of-word (word .ensures)),
+      omega (arith, c .ones-in .ensures .few),
     )
 
-word-at-requires-2 : tie.Need-word-at-requires-2 Inv-loop μ-loop
-word-at-requires-2 c κs = (omega arith, omega arith)
-
 add-result : tie.Need-add-result Inv-loop μ-loop
-add-result c = omega (arith, c .ones-in2 .ensures .1)
+add-result c = omega (arith, c .ones-in2 .ensures .few)
 
 returns : tie.Need-returns Inv-loop μ-loop
 returns c =
@@ -47,7 +41,7 @@ returns c =
     let left = length bits - turn .i in
     let all : turn .i + left ≡ length bits = omega arith in
     let sum : turn .many + c .ones-in2 .result ≡ length (markedBelow (8 * (turn .i + left)) bits) =
-    omega (arith, turn .inv .1, c .ones-in2 .ensures .0, count-of-word (c .before .word-at2 .ensures)) in
+    omega (arith, turn .inv .1, c .ones-in2 .ensures .counted, count-of-word (c .before .word-at2 .ensures)) in
     sum ∙ ap (λ (n : ℕ). length (markedBelow (8 * n) bits)) all
 
 pub count-rows-spec : {M : Type 1} → statement M
@@ -58,14 +52,14 @@ count-rows-spec =
     μ-loop
     loop-holds
     (λ c. omega arith)
-    word-at-requires
+    (λ c κs. search needs)
     (λ c κs. search needs)
     add-many
     (λ c. omega arith)
     (λ c. omega arith)
     loop-again
     (λ c. omega arith)
-    word-at-requires-2
+    (λ c κs. search needs)
     (λ c κs. search needs)
     add-result
     returns)

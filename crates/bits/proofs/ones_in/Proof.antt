@@ -9,7 +9,7 @@ cast-result : tie.Need-cast-result
 cast-result c = omega (arith, ones-le 64 (c .args .word) (omega arith))
 
 returns : tie.Need-returns
-returns c = (bits-counted 64 (c .args .word) (omega arith), ones-le 64 (c .args .word) (omega arith))
+returns c = record { counted = bits-counted 64 (c .args .word) (omega arith); few = ones-le 64 (c .args .word) (omega arith) }
 
 pub ones-in-spec : {M : Type 1} → statement M
 ones-in-spec = tie.close (tie.spec cast-result returns)

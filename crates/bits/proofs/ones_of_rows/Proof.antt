@@ -21,12 +21,12 @@ loop-holds c = (omega arith, refl, omega arith)
 cast-ones : tie.Need-cast-ones Inv-loop μ-loop
 cast-ones c =
     let start = c .before .before .before in
-    omega (arith, start .pre .0 .each (start .args .at + c .before .before .loop .k))
+    omega (arith, start .pre .found .each (start .args .at + c .before .before .loop .k))
 
 add-ones-2 : tie.Need-add-ones-2 Inv-loop μ-loop
 add-ones-2 c =
     let start = c .before .before .before in
-    omega (arith, start .pre .0 .each (start .args .at + c .before .before .loop .k))
+    omega (arith, start .pre .found .each (start .args .at + c .before .before .loop .k))
 
 loop-again : tie.Need-loop-again Inv-loop μ-loop
 loop-again c =
@@ -36,7 +36,7 @@ loop-again c =
       omega arith,
       rw (add-one, sum-one-more (λ i. getD (start .args .found .now) (start .args .at + i) 0))
           (ap (λ (ones : ℕ). ones + here) (turn .inv .1)),
-      omega (arith, start .pre .0 .each (start .args .at + turn .k)),
+      omega (arith, start .pre .found .each (start .args .at + turn .k)),
     )
 
 returns : tie.Need-returns Inv-loop μ-loop
@@ -44,7 +44,10 @@ returns c =
     let turn = c .before .loop in
     let a = c .before .before .args in
     let end : turn .k ≡ 8 = omega arith in
-    (turn .inv .1 ∙ ap (λ (n : ℕ). sum (λ i. getD (a .found .now) (a .at + i) 0) (below n)) end, omega arith)
+    record {
+      counted = turn .inv .1 ∙ ap (λ (n : ℕ). sum (λ i. getD (a .found .now) (a .at + i) 0) (below n)) end;
+      few = omega arith;
+    }
 
 pub ones-of-rows-spec : {M : Type 1} → statement M
 ones-of-rows-spec =

@@ -7,13 +7,12 @@ use mathlib.Core.List.{map}
 use mathlib.Core.Bool.{false}
 use lib.Dec.{eqb}
 use lib.ListN.{length, getD}
-use Rattle.limits.specs.Limits.{longestSegment}
 use Rattle.basis.specs.Buffers.{laid}
 use Rattle.basis.specs.Lists.{sum, below}
 use Rattle.basis.proofs.Runs.{sum-ends}
 use Rattle.basis.proofs.Lists.{sum-continues}
 use Rattle.basis.proofs.Buffers.{Filled, filled-nothing, filled-element}
-use Rattle.bits.specs.Bits.{FoundRows, bytesFor, bitsAt, bitsOf}
+use Rattle.bits.specs.Bits.{EightRows, bytesFor, bitsAt, bitsOf}
 use Rattle.bits.proofs.Packed.{byte-from}
 use Rattle.bits.proofs.put_bits.Statement.{statement}
 use Rattle.bits.proofs.put_bits.Tie as tie
@@ -31,12 +30,13 @@ abbrev μ-loop : tie.MeasureT-loop
 -- the eight rows from here on are among the 64 places
 eight-more : (c : tie.In-loop Inv-loop μ-loop) →
     let a = c .before .before .before .args in
-    FoundRows (a .found .now) longestSegment × (8 * c .before .loop .i + 8 ≤ longestSegment)
+    EightRows (a .found .now) (8 * c .before .loop .i)
 eight-more c =
-    let fit = c .before .before .before .pre .0 in (
-      record { few = omega arith; all = fit .all; each = fit .each; rest = λ k h. fit .rest k (omega (arith, fit .few)) },
-      omega (arith, fit .few, c .loop-test .taken),
-    )
+    let fit = c .before .before .before .pre .found in
+    record {
+      found = record { few = omega arith; all = fit .all; each = fit .each; rest = λ k h. fit .rest k (omega (arith, fit .few)) };
+      inside = omega (arith, fit .few, c .loop-test .taken);
+    }
 
 -- the byte at hand is one of those that the result has room for
 room : (c : tie.In-loop Inv-loop μ-loop) →
@@ -45,16 +45,16 @@ room : (c : tie.In-loop Inv-loop μ-loop) →
 unfolding bytesFor
 room c =
     let start = c .before .before .before in
-    omega (arith, start .pre .1, c .loop-test .taken, c .before .loop .inv .1 .same-length)
+    omega (arith, start .pre .room, c .loop-test .taken, c .before .loop .inv .1 .same-length)
 
 loop-holds : tie.Need-loop-holds Inv-loop μ-loop
 loop-holds c = (omega arith, filled-nothing _ _, refl, omega arith)
 
 mul-loop : tie.Need-mul-loop Inv-loop μ-loop
-mul-loop c = omega (arith, c .before .before .pre .0 .few)
+mul-loop c = omega (arith, c .before .before .pre .found .few)
 
 mul-byte-of-rows : tie.Need-mul-byte-of-rows Inv-loop μ-loop
-mul-byte-of-rows c = omega (arith, c .before .before .before .pre .0 .few)
+mul-byte-of-rows c = omega (arith, c .before .before .before .pre .found .few)
 
 byte-of-rows-requires : tie.Need-byte-of-rows-requires Inv-loop μ-loop
 byte-of-rows-requires c κs = eight-more c
@@ -66,22 +66,22 @@ slice-write-result : tie.Need-slice-write-result Inv-loop μ-loop
 slice-write-result c = room (c .before)
 
 mul-ones-of-rows : tie.Need-mul-ones-of-rows Inv-loop μ-loop
-mul-ones-of-rows c = omega (arith, c .before .before .before .before .pre .0 .few)
+mul-ones-of-rows c = omega (arith, c .before .before .before .before .pre .found .few)
 
 ones-of-rows-requires : tie.Need-ones-of-rows-requires Inv-loop μ-loop
 ones-of-rows-requires c κs = eight-more (c .before)
 
 add-matches : tie.Need-add-matches Inv-loop μ-loop
-add-matches c = omega (arith, c .ones-of-rows .ensures .1, c .before .before .before .before .before .pre .0 .few)
+add-matches c = omega (arith, c .ones-of-rows .ensures .few, c .before .before .before .before .before .pre .found .few)
 
 add-i : tie.Need-add-i Inv-loop μ-loop
-add-i c = omega (arith, c .before .before .before .before .before .pre .0 .few)
+add-i c = omega (arith, c .before .before .before .before .before .pre .found .few)
 
 loop-again : tie.Need-loop-again Inv-loop μ-loop
 loop-again c =
     let turn = c .before .before .before .loop in
     let a = c .before .before .before .before .before .args in
-    let fit = c .before .before .before .before .before .pre .0 in
+    let fit = c .before .before .before .before .before .pre .found in
     let at-hand = c .before .before in
     let place : ℕ → ℕ = λ k. getD (a .found .now) k 0 in
     let none-past : (k : ℕ) → a .n ≤ k → eqb (place k) 1 ≡ false = λ k h. rw (fit .rest k h) in
@@ -90,8 +90,8 @@ loop-again c =
     let next : 8 * (turn .i + 1) ≡ 8 * turn .i + 8 = omega arith in (
       omega (arith, at-hand .loop-test .taken),
       rw byte (filled-element (a .result .now) (a .at) _ (turn .i) (turn .inv .1) (omega (arith, room at-hand, turn .inv .1 .same-length))),
-      rw (next, sum-continues place (8 * turn .i) 8) (ap₂ _+_ (turn .inv .2) (ones .0)),
-      omega (arith, ones .1),
+      rw (next, sum-continues place (8 * turn .i) 8) (ap₂ _+_ (turn .inv .2) (ones .counted)),
+      omega (arith, ones .few),
     )
 
 same-length : tie.Need-same-length Inv-loop μ-loop
@@ -102,12 +102,14 @@ unfolding bitsOf bytesFor
 returns c =
     let turn = c .before .loop in
     let a = c .before .before .before .args in
-    let fit = c .before .before .before .pre .0 in
-    let end : turn .i ≡ (a .n + 7) / 8 = omega (arith, c .loop-test .left) in (
-      turn .inv .2 ∙ sum-ends (λ k. getD (a .found .now) k 0) (c .loop-test .left) (fit .rest),
-      turn .inv .1 .filled
-          ∙ ap (λ (many : ℕ). laid (a .result .now) (a .at) (map (bitsAt (λ k. eqb (getD (a .found .now) k 0) 1) (a .n)) (below many))) end,
-    )
+    let fit = c .before .before .before .pre .found in
+    let end : turn .i ≡ (a .n + 7) / 8 = omega (arith, c .loop-test .left) in
+    record {
+      counted = turn .inv .2 ∙ sum-ends (λ k. getD (a .found .now) k 0) (c .loop-test .left) (fit .rest);
+      left =
+          turn .inv .1 .filled
+          ∙ ap (λ (many : ℕ). laid (a .result .now) (a .at) (map (bitsAt (λ k. eqb (getD (a .found .now) k 0) 1) (a .n)) (below many))) end;
+    }
 
 pub put-bits-spec : {M : Type 1} → statement M
 put-bits-spec =

@@ -10,10 +10,13 @@ returns : tie.Need-returns
 unfolding HoldsPlaces
 returns c =
     let start = c .before .before .before in
-    let byte = c .before .before .wide .ensures in (
-      c .row-number .ensures .0 ∙ rw (byte .0) (start .pre .0 (start .args .byte) (start .args .k) (omega arith) (start .pre .1)),
-      c .row-number .ensures .1,
-    )
+    let byte = c .before .before .wide .ensures in
+    record {
+      same =
+          c .row-number .ensures .same
+          ∙ rw (byte .0) (start .pre .table (start .args .byte) (start .args .k) (omega arith) (start .pre .inside));
+      small = c .row-number .ensures .small;
+    }
 
 pub position-spec : {M : Type 1} → statement M
 position-spec =

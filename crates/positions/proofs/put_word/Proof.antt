@@ -45,21 +45,21 @@ put-byte-requires c κs =
     let turn = c .before .before .before .loop in
     let start = c .before .before .before .before .before in
     let byte = byte-of (c .before .before) in
-    let ones = c .before .ones-of .ensures in (
-      (start .pre .0 .0, ones),
-      (
-        omega (arith, byte .fits),
-        omega (arith, ones, room-for-byte (turn .inv) byte, start .pre .1 .0),
-        omega (arith, start .pre .1 .1, turn .inv .same-length),
-      ),
-    )
+    let ones = c .before .ones-of .ensures in
+    record {
+      table = start .pre .table;
+      counted = ones;
+      low = omega (arith, byte .fits);
+      room = omega (arith, ones, room-for-byte (turn .inv) byte, start .pre .room);
+      inside = omega (arith, start .pre .inside, turn .inv .same-length);
+    }
 
 add-next : tie.Need-add-next Inv-loop μ-loop
 add-next c =
     let back = c .before .before .before .before in
     let turn = back .before .before .loop in
     let start = back .before .before .before .before in
-    omega (arith, back .ones-of .ensures, room-for-byte (turn .inv) (byte-of (back .before)), start .pre .1 .0, start .pre .1 .1)
+    omega (arith, back .ones-of .ensures, room-for-byte (turn .inv) (byte-of (back .before)), start .pre .room, start .pre .inside)
 
 add-passed : tie.Need-add-passed Inv-loop μ-loop
 add-passed c = omega (arith, byte-of (c .before .before .before .before .before) .fits)

@@ -21,22 +21,22 @@ put-byte-requires : tie.Need-put-byte-requires Inv-loop μ-loop
 put-byte-requires c κs =
     let start = c .before .before .before .before .before .before .before in
     let turn = c .before .before .before .before .loop in
-    let fits = next-fits (start .args .bits .now) (start .args .all) (turn .i) (omega arith) (omega (arith, start .pre .1 .0)) in
-    let ones = c .before .ones-of .ensures in (
-      (start .pre .0 .0, ones),
-      (
-        omega arith,
-        omega (arith, fits, ones, turn .inv .1 .counted),
-        omega (arith, start .pre .1 .1, turn .inv .1 .same-length),
-      ),
-    )
+    let fits = next-fits (start .args .bits .now) (start .args .all) (turn .i) (omega arith) (omega (arith, start .pre .rows .counted)) in
+    let ones = c .before .ones-of .ensures in
+    record {
+      table = start .pre .table;
+      counted = ones;
+      low = omega arith;
+      room = omega (arith, fits, ones, turn .inv .1 .counted);
+      inside = omega (arith, start .pre .rows .room, turn .inv .1 .same-length);
+    }
 
 add-at : tie.Need-add-at Inv-loop μ-loop
 add-at c =
     let back = c .before .before .before .before in
     let turn = back .before .before .before .loop in
     let start = back .before .before .before .before .before .before in
-    let fits = next-fits (start .args .bits .now) (start .args .all) (turn .i) (omega arith) (omega (arith, start .pre .1 .0)) in
+    let fits = next-fits (start .args .bits .now) (start .args .all) (turn .i) (omega arith) (omega (arith, start .pre .rows .counted)) in
     omega (arith, fits, back .ones-of .ensures, turn .inv .1 .counted)
 
 loop-again : tie.Need-loop-again Inv-loop μ-loop
@@ -49,7 +49,7 @@ same-length : tie.Need-same-length Inv-loop μ-loop
 same-length c = c .before .loop .inv .1 .same-length
 
 returns : tie.Need-returns Inv-loop μ-loop
-returns c = all-written (c .before .loop .inv .1) (omega arith) (c .before .before .before .before .pre .1 .0)
+returns c = all-written (c .before .loop .inv .1) (omega arith) (c .before .before .before .before .pre .rows .counted)
 
 pub write-bytes-spec : {M : Type 1} → statement M
 write-bytes-spec =

@@ -21,11 +21,10 @@ loop-holds c = (omega arith, filled-nothing _ _)
 
 position-requires : tie.Need-position-requires Inv-loop μ-loop
 position-requires c κs =
-    let start = c .before .before .before in
-    (start .pre .0 .0, omega arith)
+    record { table = c .before .before .before .pre .table; inside = omega arith }
 
 add-out : tie.Need-add-out Inv-loop μ-loop
-add-out c = omega (arith, c .position .ensures .1)
+add-out c = omega (arith, c .position .ensures .small)
 
 slice-write-out : tie.Need-slice-write-out Inv-loop μ-loop
 slice-write-out c = omega (arith, c .before .before .loop .inv .1 .same-length)
@@ -35,7 +34,7 @@ loop-again c =
     let turn = c .before .before .loop in
     let a = c .before .before .before .before .args in (
       omega arith,
-      rw (c .position .ensures .0)
+      rw (c .position .ensures .same)
           (filled-element (a .out .now) (a .at) (rowAt (a .byte) (a .first)) (turn .k) (turn .inv .1) (omega arith)),
     )
 

@@ -9,8 +9,7 @@ use Rattle.positions.proofs.write_rows.Tie as tie
 write-by-requires : tie.Need-write-by-requires
 unfolding rightPlace placesIn
 write-by-requires c κs =
-    let start = c .before .before .before .before in
-    ((holds-places _ refl tt, start .pre .0), start .pre .1)
+    record { table = holds-places _ refl tt; rows = c .before .before .before .before .pre }
 
 pub write-rows-spec : {M : Type 1} → statement M
 write-rows-spec = tie.close (tie.spec write-by-requires (λ c. search needs) (λ c. search needs))

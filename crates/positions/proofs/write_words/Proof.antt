@@ -2,6 +2,7 @@
 -- Assumes nothing.
 use Prim.Native.Nat.{_-_, _≤_}
 use native.Mathlib.Omega.{arith}
+use borrow.Author.Needs.{needs}
 use lib.ListN.{length}
 use Rattle.bits.proofs.Words.{room-for-word}
 use Rattle.positions.proofs.Written.{Written, none-written, word-written, all-written}
@@ -17,17 +18,17 @@ abbrev μ-loop : tie.MeasureT-loop
 loop-holds : tie.Need-loop-holds Inv-loop μ-loop
 loop-holds c = (omega arith, none-written _ _ _)
 
-word-at-requires : tie.Need-word-at-requires Inv-loop μ-loop
-word-at-requires c κs = (omega arith, omega arith)
-
 put-word-requires : tie.Need-put-word-requires Inv-loop μ-loop
 put-word-requires c κs =
     let turn = c .before .before .before .loop in
     let start = c .before .before .before .before .before .before in
-    let room = room-for-word (c .before .word-at .ensures) (start .args .all) (omega arith) (omega (arith, start .pre .1 .0)) in (
-      (start .pre .0 .0, omega arith),
-      (omega (arith, room, turn .inv .1 .counted), omega (arith, start .pre .1 .1, turn .inv .1 .same-length)),
-    )
+    let room = room-for-word (c .before .word-at .ensures) (start .args .all) (omega arith) (omega (arith, start .pre .rows .counted)) in
+    record {
+      table = start .pre .table;
+      low = omega arith;
+      room = omega (arith, room, turn .inv .1 .counted);
+      inside = omega (arith, start .pre .rows .room, turn .inv .1 .same-length);
+    }
 
 loop-again : tie.Need-loop-again Inv-loop μ-loop
 loop-again c =
@@ -35,17 +36,17 @@ loop-again c =
     let turn = put .before .before .before .before .loop in
     (omega arith, word-written (turn .inv .1) (put .before .before .word-at .ensures) (put .put-word .ensures))
 
-word-at-requires-2 : tie.Need-word-at-requires-2 Inv-loop μ-loop
-word-at-requires-2 c κs = (omega arith, omega arith)
-
 put-word-requires-2 : tie.Need-put-word-requires-2 Inv-loop μ-loop
 put-word-requires-2 c κs =
     let turn = c .before .before .before .loop in
     let start = c .before .before .before .before .before .before in
-    let room = room-for-word (c .before .word-at2 .ensures) (start .args .all) (omega arith) (omega (arith, start .pre .1 .0)) in (
-      (start .pre .0 .0, omega arith),
-      (omega (arith, room, turn .inv .1 .counted), omega (arith, start .pre .1 .1, turn .inv .1 .same-length)),
-    )
+    let room = room-for-word (c .before .word-at2 .ensures) (start .args .all) (omega arith) (omega (arith, start .pre .rows .counted)) in
+    record {
+      table = start .pre .table;
+      low = omega arith;
+      room = omega (arith, room, turn .inv .1 .counted);
+      inside = omega (arith, start .pre .rows .room, turn .inv .1 .same-length);
+    }
 
 same-length : tie.Need-same-length Inv-loop μ-loop
 same-length c =
@@ -59,7 +60,7 @@ returns c =
     let turn = put .before .before .before .before .loop in
     let start = put .before .before .before .before .before .before .before in
     let done = word-written (turn .inv .1) (put .before .before .word-at2 .ensures) (put .put-word2 .ensures) in
-    all-written done (omega arith) (start .pre .1 .0)
+    all-written done (omega arith) (start .pre .rows .counted)
 
 pub write-words-spec : {M : Type 1} → statement M
 write-words-spec =
@@ -69,7 +70,7 @@ write-words-spec =
     μ-loop
     loop-holds
     (λ c. omega arith)
-    word-at-requires
+    (λ c κs. search needs)
     (λ c. omega arith)
     (λ c. omega arith)
     put-word-requires
@@ -77,7 +78,7 @@ write-words-spec =
     (λ c. omega arith)
     loop-again
     (λ c. omega arith)
-    word-at-requires-2
+    (λ c κs. search needs)
     (λ c. omega arith)
     (λ c. omega arith)
     put-word-requires-2

@@ -75,7 +75,7 @@ returns-3 c =
 write-rows-requires : tie.Need-write-rows-requires
 write-rows-requires c κs =
     let counted = c .before .before in
-    (short (counted .before), (counted .count-rows .ensures, c .before .if3 .left))
+    record { few = short (counted .before); counted = counted .count-rows .ensures; room = c .before .if3 .left }
 
 returns-4 : tie.Need-returns-4
 returns-4 c =

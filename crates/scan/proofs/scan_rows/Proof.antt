@@ -96,11 +96,13 @@ put-bits-requires c κs =
     let rows = leastOf scanned in
     let turn = rows .before in
     let start = startOf (turn .before) in
-    let most = sized (turn .before) .most in (
-      found-rows _ _ _ _ _ _ (omega (arith, rows .least .ensures)) (scanned .scan-segment .ensures),
-      room-for-segment _ _ _ _ _ (sized (turn .before)) _ _ _ _ _ (turn .before .loop .inv)
-          (start .pre .0 .few) (turn .loop-test .taken) _ (rows .least .ensures) (start .pre .1 .1),
-    )
+    let most = sized (turn .before) .most in
+    record {
+      found = found-rows _ _ _ _ _ _ (omega (arith, rows .least .ensures)) (scanned .scan-segment .ensures);
+      room =
+          room-for-segment _ _ _ _ _ (sized (turn .before)) _ _ _ _ _ (turn .before .loop .inv)
+          (start .pre .0 .few) (turn .loop-test .taken) _ (rows .least .ensures) (start .pre .1 .1);
+    }
 
 add-matches : tie.Need-add-matches Inv-loop μ-loop
 add-matches c =
@@ -111,7 +113,7 @@ add-matches c =
     let found = found-rows _ _ _ _ _ _ (omega (arith, rows .least .ensures)) (scanned .scan-segment .ensures) in
     let ones = ones-at-most _ _ found in
     let so-far = matches-at-most _ _ _ _ _ (sized (turn .before)) _ _ _ _ _ (turn .before .loop .inv) in
-    omega (arith, c .before .before .put-bits .ensures .0, fit (turn .before) .1, turn .loop-test .taken)
+    omega (arith, c .before .before .put-bits .ensures .counted, fit (turn .before) .1, turn .loop-test .taken)
 
 add-first : tie.Need-add-first Inv-loop μ-loop
 add-first c =
@@ -134,8 +136,8 @@ loop-again c =
     let put = c .before .before in
     let added = put .before .before .before in
     one-more-segment _ _ _ _ _ (sized (turn .before)) (start .pre .0 .few) _ _ _ _ _ (turn .before .loop .inv) (turn .loop-test .taken) _
-    (rows .least .ensures) _ (scanned .scan-segment .ensures) _ _ _ (added .add-counts .ensures) (put .put-bits .ensures .0)
-    (put .put-bits .ensures .1) (start .pre .1 .1)
+    (rows .least .ensures) _ (scanned .scan-segment .ensures) _ _ _ (added .add-counts .ensures) (put .put-bits .ensures .counted)
+    (put .put-bits .ensures .left) (start .pre .1 .1)
 
 sum-of-requires : tie.Need-sum-of-requires Inv-loop μ-loop
 sum-of-requires c κs =
