@@ -2,9 +2,9 @@
 use limits::BLOCK_ROWS;
 ghost use mathlib.Core.Path.{_≡_};
 ghost use mathlib.Core.List.{map};
-ghost use Prim.Native.Nat.{_+_, _*_, _/_, _%_, _^_, _≤_, _<_, min};
+ghost use Prim.Native.Nat.{_+_, _/_, _%_, _^_, _≤_, min};
 ghost use lib.ListN.{length, getD};
-ghost use Rattle.limits.specs.Limits.{mostColumns, mostSlices, blockRows};
+ghost use Rattle.limits.specs.Limits.{blockRows};
 ghost use Rattle.basis.specs.Buffers.{laid};
 ghost use Rattle.basis.specs.Lists.{below};
 ghost use Rattle.codes.specs.Width.{slicesOf};
@@ -13,7 +13,7 @@ ghost use Rattle.directory.specs.Layout.{slicesBefore, bytesBefore};
 ghost use Rattle.table.specs.Table.{widthOf, codeOf, FitWidths, FitCodes};
 ghost use Rattle.slicing.specs.Body.{bodyOf};
 ghost use Rattle.table.specs.ManyAtOnce.{Holds};
-ghost use Rattle.slicing.specs.Putting.{FitBlock, Put};
+ghost use Rattle.slicing.specs.Putting.{FitBlock, FitColumn, FitCopy, FitRun, Put};
 
 // Writes the slices of all columns to the front, by blocks of rows, so that the codes are gone
 // through once.
@@ -43,9 +43,7 @@ fn rows_in_block(left: usize) -> usize
 
 // Writes the bytes of a block of rows, column after column.
 fn write_block(rows: usize, widths: &[u8], codes: &[u64], first: usize, n: usize, out: &mut [u8])
-    requires { ⌜ FitWidths (now widths) ⌝ }
-    requires { ⌜ FitCodes rows (now widths) (now codes) ⌝ }
-    requires { ⌜ FitBlock rows (now widths) first n (now out) ⌝ }
+    requires { ⌜ FitBlock rows (now widths) (now codes) first n (now out) ⌝ }
     ensures { λ _. ⌜ Put rows (bodyOf rows (now (widths .entry)) (now (codes .entry))) (now (out .entry)) (now (out .exit))
         first (first + n) 0 (slicesBefore (widthOf (now (widths .entry))) (length (now (widths .entry)))) ⌝ }
 {
@@ -70,11 +68,7 @@ fn write_block_column(
     n: usize,
     out: &mut [u8],
 )
-    requires { ⌜ FitWidths (now widths) ⌝ }
-    requires { ⌜ FitCodes rows (now widths) (now codes) ⌝ }
-    requires { ⌜ FitBlock rows (now widths) first n (now out) ⌝ }
-    requires { ⌜ (column < length (now widths)) × (slices ≡ slicesBefore (widthOf (now widths)) column)
-        × (slices ≤ mostSlices * mostColumns) ⌝ }
+    requires { ⌜ FitColumn rows (now widths) (now codes) column slices first n (now out) ⌝ }
     ensures { λ _. ⌜ Put rows (bodyOf rows (now (widths .entry)) (now (codes .entry))) (now (out .entry)) (now (out .exit))
         first (first + n) slices (slices + slicesOf (widthOf (now (widths .entry)) column)) ⌝ }
 {
@@ -99,9 +93,7 @@ fn copy_stored(
     n: usize,
     stored: &mut [u32; BLOCK_ROWS],
 )
-    requires { ⌜ FitWidths (now widths) ⌝ }
-    requires { ⌜ FitCodes rows (now widths) (now codes) ⌝ }
-    requires { ⌜ (column < length (now widths)) × (first + n ≤ rows) × (n ≤ blockRows) × (length (now stored) ≡ blockRows) ⌝ }
+    requires { ⌜ FitCopy rows (now widths) (now codes) column first n (now stored) ⌝ }
     ensures { λ _. ⌜ Holds (λ k. storedOf (widthOf (now (widths .entry)) column)
         (codeOf (now (widths .entry)) (now (codes .entry)) (first + k) column)) n (now (stored .exit)) ⌝ }
 {
@@ -118,7 +110,7 @@ fn copy_stored(
 // Writes a byte of each of the first n numbers from a place on: the one that stands so many bits
 // from the end.
 fn write_run(stored: &[u32; BLOCK_ROWS], n: usize, shift: usize, out: &mut [u8], at: usize)
-    requires { ⌜ (n ≤ blockRows) × (shift < 32) × (at + n ≤ length (now out)) ⌝ }
+    requires { ⌜ FitRun n shift at (now out) ⌝ }
     ensures { λ _. ⌜ now (out .exit) ≡ laid (now (out .entry)) at
         (map (λ k. getD (now (stored .entry)) k 0 / 2 ^ shift % 256) (below n)) ⌝ }
 {

@@ -1,12 +1,40 @@
--- What the steps leave that judge many codes at once. Assumes nothing.
+-- What the steps that judge many codes at once may rely on, and what they leave. Assumes nothing.
 use Prim.Native.Nat.{ℕ, _+_, _*_, _%_, _≤_, _<_}
 use mathlib.Core.Path.{_≡_}
 use mathlib.Core.List.{List}
 use lib.ListN.{length, getD}
+use Rattle.limits.specs.Limits.{mostColumns, longestPeriod}
+
+-- rows of codes, of some columns and not too many
+pub record FullRows (columns rows : ℕ) (codes : List ℕ) : Type 0 where
+  pub some : 0 < columns
+  pub few : columns ≤ mostColumns
+  pub full : length codes ≡ rows * columns
+
+-- a row of codes that stands from a place on
+pub record RowThere (columns at : ℕ) (codes : List ℕ) : Type 0 where
+  pub few : columns ≤ mostColumns
+  pub inside : at + columns ≤ length codes
+
+-- so many periods of codes
+pub record PeriodsThere (period periods : ℕ) (codes : List ℕ) : Type 0 where
+  pub short : period ≤ longestPeriod
+  pub inside : periods * period ≤ length codes
+
+-- n codes from a place on, and as many places as a period can have
+pub record CodesThere (at n : ℕ) (codes joined : List ℕ) : Type 0 where
+  pub short : n ≤ longestPeriod
+  pub inside : at + n ≤ length codes
+  pub whole : length joined ≡ longestPeriod
 
 -- the codes of the first rows are below the limits of their columns
 pub record Below (limits codes : List ℕ) (columns rows : ℕ) : Type 0 where
   pub each : (i : ℕ) → i < rows * columns → getD codes i 0 < getD limits (i % columns) 0
+
+-- so many of the rows are known to be so
+pub record RowsBelow (limits codes : List ℕ) (columns rows known : ℕ) : Type 0 where
+  pub within : known ≤ rows
+  pub below : Below limits codes columns known
 
 -- no code of so many periods is above what is held for its place
 pub record Covers (codes : List ℕ) (period periods : ℕ) (joined : List ℕ) : Type 0 where

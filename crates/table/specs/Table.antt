@@ -31,6 +31,11 @@ pub record FitWidths (widths : List ℕ) : Type 0 where
   pub few : length widths ≤ mostColumns
   pub each : (column : ℕ) → column < length widths → unfitWidth (widthOf widths column) ≡ false
 
+-- as many codes as so many rows of such columns have
+pub record FullTable (rows : ℕ) (widths codes : List ℕ) : Type 0 where
+  pub fit : FitWidths widths
+  pub full : length codes ≡ rows * length widths
+
 -- rows of codes that these columns can hold
 pub record FitCodes (rows : ℕ) (widths codes : List ℕ) : Type 0 where
   pub few-rows : rows ≤ mostRows

@@ -4,13 +4,13 @@ use limits::LONGEST_PERIOD;
 use limits::MOST_COLUMNS;
 ghost use mathlib.Core.Path.{_≡_};
 ghost use mathlib.Core.Bool.{not};
-ghost use Prim.Native.Nat.{_+_, _*_, _^_, _≤_, _<_};
+ghost use Prim.Native.Nat.{_+_, _^_};
 ghost use lib.Dec.{ltb};
 ghost use lib.ListN.{length, getD};
-ghost use Rattle.limits.specs.Limits.{mostColumns, longestPeriod};
 ghost use Rattle.basis.specs.Places.{firstPlace};
-ghost use Rattle.table.specs.Table.{widthOf, FitWidths, firstUnfitWidth, firstTooLarge};
-ghost use Rattle.table.specs.ManyAtOnce.{Below, Covers, Raised, Holds};
+ghost use Rattle.table.specs.Table.{widthOf, FitWidths, FullTable, firstUnfitWidth, firstTooLarge};
+ghost use Rattle.table.specs.ManyAtOnce.{FullRows, RowThere, PeriodsThere, CodesThere};
+ghost use Rattle.table.specs.ManyAtOnce.{RowsBelow, Covers, Raised, Holds};
 
 // The lowest column whose width fits none, or the number of columns.
 pub fn first_unfit(widths: &[u8]) -> usize
@@ -29,8 +29,7 @@ pub fn first_unfit(widths: &[u8]) -> usize
 // The lowest index of a code that is too large for its column, or the number of codes. Rows that are
 // known to be below their limits at once are passed over; the others are gone through one by one.
 pub fn first_too_large(rows: usize, widths: &[u8], codes: &[u64]) -> usize
-    requires { ⌜ FitWidths (now widths) ⌝ }
-    requires { ⌜ length (now codes) ≡ rows * length (now widths) ⌝ }
+    requires { ⌜ FullTable rows (now widths) (now codes) ⌝ }
     ensures { λ r. ⌜ r ≡ firstTooLarge (now (widths .entry)) (now (codes .entry)) ⌝ }
 {
     let columns = widths.len();
@@ -65,8 +64,8 @@ fn limits_of(widths: &[u8]) -> [u64; MOST_COLUMNS]
 // codes that stand alike in every eight rows make, joined bit by bit, a number at least as large as
 // each of them.
 fn rows_below(limits: &[u64; MOST_COLUMNS], columns: usize, rows: usize, codes: &[u64]) -> usize
-    requires { ⌜ (0 < columns) × (columns ≤ mostColumns) × (length (now codes) ≡ rows * columns) ⌝ }
-    ensures { λ r. ⌜ (r ≤ rows) × Below (now (limits .entry)) (now (codes .entry)) columns r ⌝ }
+    requires { ⌜ FullRows columns rows (now codes) ⌝ }
+    ensures { λ r. ⌜ RowsBelow (now (limits .entry)) (now (codes .entry)) columns rows r ⌝ }
 {
     let period = 8 * columns;
     let eights = rows / 8;
@@ -83,7 +82,7 @@ fn rows_below(limits: &[u64; MOST_COLUMNS], columns: usize, rows: usize, codes: 
 
 // The codes of so many periods, joined place by place.
 fn joined_codes(codes: &[u64], period: usize, periods: usize) -> [u64; LONGEST_PERIOD]
-    requires { ⌜ (period ≤ longestPeriod) × (periods * period ≤ length (now codes)) ⌝ }
+    requires { ⌜ PeriodsThere period periods (now codes) ⌝ }
     ensures { λ r. ⌜ Covers (now (codes .entry)) period periods r ⌝ }
 {
     let mut joined = [0u64; LONGEST_PERIOD];
@@ -97,7 +96,7 @@ fn joined_codes(codes: &[u64], period: usize, periods: usize) -> [u64; LONGEST_P
 
 // Joins n codes from a place on, each to what is held for it.
 fn join_codes(codes: &[u64], at: usize, n: usize, joined: &mut [u64; LONGEST_PERIOD])
-    requires { ⌜ (n ≤ longestPeriod) × (at + n ≤ length (now codes)) × (length (now joined) ≡ longestPeriod) ⌝ }
+    requires { ⌜ CodesThere at n (now codes) (now joined) ⌝ }
     ensures { λ _. ⌜ Raised (now (codes .entry)) at n (now (joined .entry)) (now (joined .exit)) ⌝ }
 {
     let mut k = 0;
@@ -110,7 +109,7 @@ fn join_codes(codes: &[u64], at: usize, n: usize, joined: &mut [u64; LONGEST_PER
 // The lowest column whose code, in the row that starts at a place, is not below its limit, or the
 // number of columns.
 fn first_at_limit(limits: &[u64; MOST_COLUMNS], columns: usize, codes: &[u64], at: usize) -> usize
-    requires { ⌜ (columns ≤ mostColumns) × (at + columns ≤ length (now codes)) ⌝ }
+    requires { ⌜ RowThere columns at (now codes) ⌝ }
     ensures { λ r. ⌜ r ≡ firstPlace (λ column. not (ltb (getD (now (codes .entry)) (at + column) 0)
         (getD (now (limits .entry)) column 0))) columns ⌝ }
 {

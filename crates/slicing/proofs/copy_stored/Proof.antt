@@ -43,7 +43,7 @@ row-there c = omega (arith, start c .pre)
 there : (c : tie.In-loop Inv-loop μ-loop) →
     let args = start c .args in
     (args .first + c .before .loop .k) * length (args .widths .now) + args .column < length (args .codes .now)
-there c = code-there _ _ _ (start c .pre .1 .0) _ _ (row-there c) (start c .pre .1 .1 .0)
+there c = code-there _ _ _ (start c .pre .fit-codes) _ _ (row-there c) (start c .pre .there)
 
 -- and its stored number fits
 small : (c : tie.In-loop Inv-loop μ-loop) →
@@ -55,7 +55,7 @@ small c =
     let pre = start c .pre in
     let code = codeOf (args .widths .now) (args .codes .now) (args .first + c .before .loop .k) (args .column) in
     let same = times-unit (widthOf (args .widths .now) (args .column)) code _ (c .before .before .unit-of .ensures) in
-    omega (arith, stored-small _ _ _ (pre .1 .0) _ _ (row-there c) (pre .1 .1 .0) (pre .0))
+    omega (arith, stored-small _ _ _ (pre .fit-codes) _ _ (row-there c) (pre .there) (pre .fit-widths))
 
 loop-holds : tie.Need-loop-holds Inv-loop μ-loop
 loop-holds c = (omega arith, refl, holds-nothing _ _)

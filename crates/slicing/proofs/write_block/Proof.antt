@@ -34,7 +34,7 @@ passed : (c : tie.After-slices-of Inv-loop μ-loop) →
     Counted (start turn .args .widths .now) (turn .before .loop .slices + c .slices-of .result) (turn .before .loop .column + 1)
 passed c =
     let turn = turnOf c in
-    one-more-counted _ (start turn .pre .0) _ _ _ (turn .before .loop .inv .0) (omega arith) (c .slices-of .ensures)
+    one-more-counted _ (start turn .pre .fit-widths) _ _ _ (turn .before .loop .inv .0) (omega arith) (c .slices-of .ensures)
 
 loop-holds : tie.Need-loop-holds Inv-loop μ-loop
 loop-holds c = (none-counted _, put-nothing _ _ (c .before .before .before .args .out .now) _ _ 0)
@@ -45,19 +45,22 @@ write-block-column-requires c κs =
     let pre = start turn .pre in
     let counted = turn .before .loop .inv .0 in
     let long = turn .before .loop .inv .1 .same-length in
-    let block = pre .1 .1 in (
-      pre .0,
-      (
-        pre .1 .0,
-        (
-          record { within = block .within; few = block .few; room = omega (arith, block .room) },
-          (turn .loop-test .taken, counted .counted, omega (arith, counted .few, pre .0 .few)),
-        ),
-      ),
-    )
+    record {
+      block =
+          record {
+            fit-widths = pre .fit-widths;
+            fit-codes = pre .fit-codes;
+            within = pre .within;
+            few = pre .few;
+            room = omega (arith, pre .room);
+          };
+      there = turn .loop-test .taken;
+      counted = counted .counted;
+      few = omega (arith, counted .few, pre .fit-widths .few);
+    }
 
 add-slices : tie.Need-add-slices Inv-loop μ-loop
-add-slices c = omega (arith, passed c .few, start (turnOf c) .pre .0 .few)
+add-slices c = omega (arith, passed c .few, start (turnOf c) .pre .fit-widths .few)
 
 loop-again : tie.Need-loop-again Inv-loop μ-loop
 loop-again c =

@@ -38,7 +38,7 @@ few : (c : tie.In-loop Inv-loop μ-loop) → c .before .before .slices-of .resul
 few c =
     let args = start c .args in
     let pre = start c .pre in
-    let most = few-slices-of (widthOf (args .widths .now) (args .column)) (narrow _ (pre .0) _ (pre .1 .1 .1 .0)) in
+    let most = few-slices-of (widthOf (args .widths .now) (args .column)) (narrow _ (pre .block .fit-widths) _ (pre .there)) in
     omega (arith, c .before .before .slices-of .ensures)
 
 -- its run has room in the buffer
@@ -49,13 +49,21 @@ room c =
     let args = start c .args in
     let pre = start c .pre in
     let inside = run-within (args .rows) (args .widths .now) (args .codes .now) (args .column) (c .before .loop .slice) (args .first)
-    (args .n) (pre .1 .1 .1 .0) (among c) (pre .1 .1 .0 .within) (args .slices) (pre .1 .1 .1 .1) in
-    omega (arith, pre .1 .1 .0 .room)
+    (args .n) (pre .there) (among c) (pre .block .within) (args .slices) (pre .counted) in
+    omega (arith, pre .block .room)
 
 copy-stored-requires : tie.Need-copy-stored-requires Inv-loop μ-loop
 copy-stored-requires c κs =
     let pre = c .before .before .before .before .pre in
-    (pre .0, (pre .1 .0, (pre .1 .1 .1 .0, pre .1 .1 .0 .within, pre .1 .1 .0 .few, refl)))
+    let block = pre .block in
+    record {
+      fit-widths = block .fit-widths;
+      fit-codes = block .fit-codes;
+      there = pre .there;
+      within = block .within;
+      few = block .few;
+      whole = refl;
+    }
 
 loop-holds : tie.Need-loop-holds Inv-loop μ-loop
 loop-holds c =
@@ -63,7 +71,7 @@ loop-holds c =
     (omega arith, rw add-zero (put-nothing (args .rows) _ (args .out .now) _ _ (args .slices)))
 
 add-at : tie.Need-add-at Inv-loop μ-loop
-add-at c = omega (arith, few c, start c .pre .1 .1 .1 .2)
+add-at c = omega (arith, few c, start c .pre .few)
 
 mul-at : tie.Need-mul-at Inv-loop μ-loop
 mul-at c = omega (arith, room c)
@@ -78,7 +86,7 @@ write-run-requires : tie.Need-write-run-requires Inv-loop μ-loop
 write-run-requires c κs =
     let turn = c .before .before in
     let long = turn .before .loop .inv .1 .same-length in
-    (start turn .pre .1 .1 .0 .few, omega (arith, few turn), omega (arith, room turn))
+    record { few = start turn .pre .block .few; inside = omega (arith, few turn); room = omega (arith, room turn) }
 
 loop-again : tie.Need-loop-again Inv-loop μ-loop
 loop-again c =
@@ -86,12 +94,12 @@ loop-again c =
     let turn = call .before .before .before in
     let args = start turn .args in
     let pre = start turn .pre in
-    let block = pre .1 .1 .0 in
+    let block = pre .block in
     let long = turn .before .loop .inv .1 .same-length in
     let so-far = turn .before .loop .inv .1 in
     let slice =
     run-put (args .rows) (args .widths .now) (args .codes .now) (args .column) (turn .before .loop .slice) (args .first) (args .n)
-    (pre .1 .1 .1 .0) (among turn) (block .within) (args .slices) _ _ _ (pre .1 .1 .1 .1) (turn .before .before .slices-of .ensures)
+    (pre .there) (among turn) (block .within) (args .slices) _ _ _ (pre .counted) (turn .before .before .slices-of .ensures)
     (turn .before .before .before .before .copy-stored .ensures) (omega (arith, block .room)) (call .write-run .ensures) in
     (omega arith, put-slices (args .rows) (bodyOf (args .rows) (args .widths .now) (args .codes .now)) so-far slice)
 

@@ -34,7 +34,13 @@ write-block-requires c κs =
     let pre = start turn .pre in
     let n = c .before .rows-in-block .ensures in
     let long = turn .before .loop .inv .1 .same-length in
-    (pre .0, (pre .1 .0, record { within = omega arith; few = omega arith; room = omega (arith, pre .1 .1) }))
+    record {
+      fit-widths = pre .0;
+      fit-codes = pre .1 .0;
+      within = omega arith;
+      few = omega arith;
+      room = omega (arith, pre .1 .1);
+    }
 
 add-first : tie.Need-add-first Inv-loop μ-loop
 add-first c = omega (arith, c .before .before .before .before .rows-in-block .ensures)

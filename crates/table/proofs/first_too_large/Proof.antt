@@ -47,7 +47,7 @@ row-within : (c : tie.In-loop Inv-loop μ-loop) →
     c .before .loop .row * columns + columns ≤ length (start c .args .codes .now)
 row-within c =
     let columns = length (start c .args .widths .now) in
-    omega (arith, mul-le-mul-right columns (c .loop-test .taken), start c .pre .1)
+    omega (arith, mul-le-mul-right columns (c .loop-test .taken), start c .pre .full)
 
 -- its codes are held to the limits that were made
 by : (c : tie.In-loop Inv-loop μ-loop) (column : ℕ) →
@@ -62,22 +62,22 @@ by c =
 rows-below-requires : tie.Need-rows-below-requires Inv-loop μ-loop
 rows-below-requires c κs =
     let pre = c .before .before .before .before .pre in
-    (pre .0 .some, pre .0 .few, pre .1)
+    record { some = pre .fit .some; few = pre .fit .few; full = pre .full }
 
 loop-holds : tie.Need-loop-holds Inv-loop μ-loop
 loop-holds c =
     let below = c .rows-below .ensures in
     let begin = c .before .before .before .before .before in
     let args = begin .args in (
-      below .0,
-      below-fits (args .widths .now) (args .codes .now) _ _ (c .before .before .limits-of .ensures) (begin .pre .0 .some) (below .1),
+      below .within,
+      below-fits (args .widths .now) (args .codes .now) _ _ (c .before .before .limits-of .ensures) (begin .pre .fit .some) (below .below),
     )
 
 mul-first-at-limit : tie.Need-mul-first-at-limit Inv-loop μ-loop
 mul-first-at-limit c = omega (arith, row-within (c .before))
 
 first-at-limit-requires : tie.Need-first-at-limit-requires Inv-loop μ-loop
-first-at-limit-requires c κs = (start (c .before) .pre .0 .few, row-within (c .before))
+first-at-limit-requires c κs = record { few = start (c .before) .pre .fit .few; inside = row-within (c .before) }
 
 mul-result : tie.Need-mul-result Inv-loop μ-loop
 mul-result c = omega (arith, row-within (c .before .before .before))
@@ -105,7 +105,7 @@ returns-2 c =
     let turn = c .before .loop in
     let begin = c .before .before .before .before .before .before .before in
     let end : turn .row ≡ begin .args .rows = omega arith in
-    sym (first-is-none _ _ (λ k h. turn .inv .1 k (rw (end, ← (begin .pre .1)) h)))
+    sym (first-is-none _ _ (λ k h. turn .inv .1 k (rw (end, ← (begin .pre .full)) h)))
 
 pub first-too-large-spec : {M : Type 1} → statement M
 first-too-large-spec =

@@ -21,7 +21,7 @@ loop-again : tie.Need-loop-again Inv-loop μ-loop
 loop-again c =
     let turn = c .before .before .before .loop in
     let pre = c .before .before .before .before .pre in
-    (omega arith, raised-one-more _ _ (turn .k) (turn .joined) (turn .inv .1) (omega (arith, turn .inv .1 .same-length, pre .2)))
+    (omega arith, raised-one-more _ _ (turn .k) (turn .joined) (turn .inv .1) (omega (arith, turn .inv .1 .same-length, pre .whole)))
 
 returns : tie.Need-returns Inv-loop μ-loop
 returns c =

@@ -23,7 +23,7 @@ within : (c : tie.In-loop Inv-loop μ-loop) →
     c .before .loop .i * args .period + args .period ≤ length (args .codes .now)
 within c =
     let start = c .before .before .before in
-    omega (arith, mul-le-mul-right (start .args .period) (c .loop-test .taken), start .pre .1)
+    omega (arith, mul-le-mul-right (start .args .period) (c .loop-test .taken), start .pre .inside)
 
 loop-holds : tie.Need-loop-holds Inv-loop μ-loop
 loop-holds c = (omega arith, refl, covers-nothing _ _ _)
@@ -32,7 +32,12 @@ mul-join-codes : tie.Need-mul-join-codes Inv-loop μ-loop
 mul-join-codes c = omega (arith, within c)
 
 join-codes-requires : tie.Need-join-codes-requires Inv-loop μ-loop
-join-codes-requires c κs = (c .before .before .before .before .pre .0, within (c .before), c .before .before .loop .inv .1)
+join-codes-requires c κs =
+    record {
+      short = c .before .before .before .before .pre .short;
+      inside = within (c .before);
+      whole = c .before .before .loop .inv .1;
+    }
 
 loop-again : tie.Need-loop-again Inv-loop μ-loop
 loop-again c =

@@ -26,15 +26,15 @@ start c = c .before .before .before .before
 column-there : (c : tie.In-loop Inv-loop μ-loop) → c .before .loop .place % start c .args .columns < 32
 column-there c =
     let columns = start c .args .columns in
-    let inside : c .before .loop .place % columns < columns = mod-lt (c .before .loop .place) (start c .pre .0) in
-    omega (arith, start c .pre .1)
+    let inside : c .before .loop .place % columns < columns = mod-lt (c .before .loop .place) (start c .pre .some) in
+    omega (arith, start c .pre .few)
 
 joined-codes-requires : tie.Need-joined-codes-requires Inv-loop μ-loop
 joined-codes-requires c κs =
     let args = c .before .args in
     let pre = c .before .pre in
     let most : 8 * (args .rows / 8) ≤ args .rows = omega arith in
-    (omega arith, omega (arith, mul-le-mul-right (args .columns) most, pre .2))
+    record { short = omega arith; inside = omega (arith, mul-le-mul-right (args .columns) most, pre .full) }
 
 loop-holds : tie.Need-loop-holds Inv-loop μ-loop
 loop-holds c = (omega arith, λ earlier h. absurd (omega arith))
@@ -46,7 +46,7 @@ element-copy-out-if1 : tie.Need-element-copy-out-if1 Inv-loop μ-loop
 element-copy-out-if1 c = column-there c
 
 returns : tie.Need-returns Inv-loop μ-loop
-returns c = (omega arith, below-none _ _ _)
+returns c = record { within = omega arith; below = below-none _ _ _ }
 
 loop-again : tie.Need-loop-again Inv-loop μ-loop
 loop-again c =
@@ -60,7 +60,10 @@ returns-2 c =
     let columns = begin .args .columns in
     let end : turn .place ≡ 8 * columns = omega arith in
     let low = rw end at (turn .inv .1) in
-    (omega arith, below-covered _ _ columns _ _ (c .before .before .joined-codes .ensures) low (begin .pre .0))
+    record {
+      within = omega arith;
+      below = below-covered _ _ columns _ _ (c .before .before .joined-codes .ensures) low (begin .pre .some);
+    }
 
 pub rows-below-spec : {M : Type 1} → statement M
 rows-below-spec =

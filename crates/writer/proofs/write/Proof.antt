@@ -114,7 +114,7 @@ unfolding writeLines
 returns-5 c = refused-by _ _ _ _ (stops (past-6 (c .before .before)) (differs _ _ (c .before .if5 .taken))) (c .refused5 .ensures)
 
 first-too-large-requires : tie.Need-first-too-large-requires
-first-too-large-requires c κs = (fit-widths (c .before), c .if5 .left)
+first-too-large-requires c κs = record { fit = fit-widths (c .before); full = c .if5 .left }
 
 returns-6 : tie.Need-returns-6
 unfolding writeLines
