@@ -8,19 +8,15 @@ use query::Test;
 use register::Opened;
 use register::Shape;
 ghost use mathlib.Core.Path.{_≡_};
-ghost use Prim.Native.Nat.{_≤_};
 ghost use mathlib.Core.Bool.{false};
-ghost use lib.ListN.{take};
-ghost use Rattle.limits.specs.Limits.{mostTests};
 ghost use Rattle.basis.specs.Refusals.{firstLine};
 ghost use Rattle.register.specs.declared.Shape.{Shape};
 ghost use Rattle.register.specs.declared.Opened.the-variants.{Register};
 ghost use Rattle.register.specs.Opening.{openedOf};
 ghost use Rattle.register.specs.Answers.{refusedWith};
-ghost use Rattle.asking.specs.declared.Verdict.the-variants.{Fit};
 ghost use Rattle.asking.specs.Sizes.{unfitSize};
-ghost use Rattle.asking.specs.Refusals.{linesFor, linesForAll, askedOf};
-ghost use Rattle.asking.specs.Verdicts.{verdictOf, unfitWith};
+ghost use Rattle.asking.specs.Refusals.{linesFor, askedOf};
+ghost use Rattle.asking.specs.Verdicts.{verdictOf, unfitWith, ToJudge, TestsJudged};
 ghost use Rattle.asking.specs.Judged.{Judged};
 
 // Whether something fits, or its first refusal.
@@ -76,9 +72,8 @@ pub fn unfit_size(size: usize) -> bool
 
 // Holds the tests to an opened file in turn, and ends at the first that does not fit.
 pub fn judge_tests(file: &[u8], shape: Shape, tests: [Test; MOST_TESTS], count: usize) -> Verdict
-    requires { ⌜ (openedOf (now file) ≡ Register shape) × (count ≤ mostTests) ⌝ }
-    ensures verdict { λ r. ⌜ r ≡ verdictOf (firstLine (linesForAll (now (file .entry)) 0 (take count tests))) ⌝ }
-    ensures fit { λ r. ⌜ (r ≡ Fit → Judged (now (file .entry)) shape tests count) ⌝ }
+    requires { ⌜ ToJudge (now file) shape count ⌝ }
+    ensures { λ r. ⌜ TestsJudged (now (file .entry)) shape tests count r ⌝ }
 {
     let mut t = 0;
     while t < count {

@@ -8,18 +8,15 @@ use query::Test;
 use register::Opened;
 use register::Shape;
 ghost use mathlib.Core.Path.{_≡_};
-ghost use Prim.Native.Nat.{_+_, _≤_};
-ghost use mathlib.Core.Bool.{false};
+ghost use Prim.Native.Nat.{_+_};
 ghost use lib.ListN.{length, getD};
 ghost use Rattle.limits.specs.Limits.{mostTests};
 ghost use Rattle.basis.specs.Lists.{sum, below};
 ghost use Rattle.basis.specs.Buffers.{laid};
-ghost use Rattle.bits.specs.Bits.{bytesFor};
-ghost use Rattle.asking.specs.Sizes.{unfitSize};
 ghost use Rattle.scan.specs.Answers.{refused, accepted, foundBits, scannedOf, leftIn};
 ghost use Rattle.basis.specs.Sweeps.{Swept};
-ghost use Rattle.asking.specs.Judged.{Judged, asked};
-ghost use Rattle.scan.specs.Steps.{Small, SmallSums};
+ghost use Rattle.asking.specs.Judged.{asked};
+ghost use Rattle.scan.specs.Steps.{ScanFit, Small, CountsFit};
 
 // The reply to a scan: how many rows match, a count of bytes for each test (0 after the last) and
 // their total; or the refusal, and then 0 in all of these.
@@ -72,8 +69,7 @@ pub fn scan_rows(
     count: usize,
     result: &mut [u8],
 ) -> Scanned
-    requires { ⌜ Judged (now file) shape tests count ⌝ }
-    requires { ⌜ (unfitSize size ≡ false) × (bytesFor (shape .rows) ≤ length (now result)) ⌝ }
+    requires { ⌜ ScanFit (now file) shape size tests count (now result) ⌝ }
     ensures answer { λ r. ⌜ r ≡ accepted (now (file .entry)) size (asked tests count) ⌝ }
     ensures left { λ r. ⌜ now (result .exit) ≡ laid (now (result .entry)) 0 (foundBits (now (file .entry)) (asked tests count)) ⌝ }
 {
@@ -121,7 +117,7 @@ pub fn scan_rows(
 
 // Adds a segment's counts to those so far.
 fn add_counts(counts: &mut [usize; MOST_TESTS], read: &[usize; MOST_TESTS])
-    requires { ⌜ (length (now counts) ≡ mostTests) × SmallSums (now counts) (now read) ⌝ }
+    requires { ⌜ CountsFit (now counts) (now read) ⌝ }
     ensures { λ _. ⌜ Swept (now (counts .entry)) (now (counts .exit)) 0 mostTests
         (λ t. getD (now (counts .entry)) t 0 + getD (now (read .entry)) t 0) ⌝ }
 {

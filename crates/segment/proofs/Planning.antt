@@ -25,7 +25,11 @@ use Rattle.segment.specs.Steps.{FitLiteral, Planned}
 
 module _ (file : List ℕ) (shape : Shape) (tests : List Test) (count : ℕ) (fit : Judged file shape tests count) (t : ℕ) (h : t < count) where
   pub fit-literal : FitLiteral (widthIn file (testAt tests t .column)) (literalOf (testAt tests t .comparison))
-  fit-literal = (width-as-opened file shape (fit .opened) _ (fit .columns t h) .1, below-the-limit _ _ (fit .literals t h))
+  fit-literal =
+      record {
+        narrow = width-as-opened file shape (fit .opened) _ (fit .columns t h) .1;
+        small = below-the-limit _ _ (fit .literals t h);
+      }
 
 pub planned-nothing : (file : List ℕ) (tests : List Test) (offsets slices lows highs : List ℕ) →
     Planned file tests 0 offsets slices lows highs

@@ -5,7 +5,8 @@ use mathlib.Core.List.{List}
 use mathlib.Core.Bool.{cond}
 use lib.ListN.{length, getD}
 use Rattle.basis.specs.Lists.{run}
-use Rattle.limits.specs.Limits.{widest, mostSlices, mostTests, longestSegment}
+use Rattle.basis.specs.Sweeps.{Swept}
+use Rattle.limits.specs.Limits.{widest, mostSlices, mostTests, longestSegment, planPlaces}
 use Rattle.codes.specs.Width.{slicesOf}
 use Rattle.codes.specs.Bytes.{byteOf}
 use Rattle.codes.specs.Pad.{highOf}
@@ -19,8 +20,26 @@ use Rattle.segment.specs.declared.Segment.{Segment}
 use Rattle.asking.specs.AtFile.{widened, testsIn, bytesIn}
 
 -- a literal that fits its column
-abbrev pub FitLiteral : ℕ → ℕ → Type 0
-FitLiteral width literal = (width ≤ widest) × (literal < 2 ^ width)
+pub record FitLiteral (width literal : ℕ) : Type 0 where
+  pub narrow : width ≤ widest
+  pub small : literal < 2 ^ width
+
+-- and a slice of that column
+pub record LiteralSlice (width literal slice : ℕ) : Type 0 where
+  pub fit : FitLiteral width literal
+  pub there : slice < slicesOf width
+
+-- a place in the plan for the low and high byte of a literal that fits, in every slice, from a base on
+pub record FitPlan (width literal base : ℕ) (lows highs : List ℕ) : Type 0 where
+  pub fit : FitLiteral width literal
+  pub room : base + mostSlices ≤ planPlaces
+  pub all-lows : length lows ≡ planPlaces
+  pub all-highs : length highs ≡ planPlaces
+
+-- the low and the high bytes stand there
+pub record BytesPlanned (width literal base : ℕ) (lows₀ lows highs₀ highs : List ℕ) : Type 0 where
+  pub low : Swept lows₀ lows base (slicesOf width) (λ j. byteOf width literal j)
+  pub high : Swept highs₀ highs base (slicesOf width) (λ j. highOf width j (byteOf width literal j))
 
 -- the plan of a query: where each test's column starts, its slices, and the literal's low and high bytes, four to a test
 pub record Planned (file : List ℕ) (tests : List Test) (count : ℕ) (offsets slices lows highs : List ℕ) : Type 0 where

@@ -13,15 +13,10 @@ use standings::open_row;
 use standings::rule_all;
 use standings::step;
 ghost use mathlib.Core.Path.{_≡_};
-ghost use Prim.Native.Nat.{_+_, _*_, _≤_, _<_};
-ghost use lib.ListN.{length};
-ghost use Rattle.limits.specs.Limits.{mostSlices, planPlaces};
-ghost use Rattle.codes.specs.Width.{slicesOf};
 ghost use Rattle.codes.specs.Bytes.{byteOf};
 ghost use Rattle.codes.specs.Pad.{highOf};
-ghost use Rattle.basis.specs.Sweeps.{Swept};
 ghost use Rattle.asking.specs.Judged.{Judged};
-ghost use Rattle.segment.specs.Steps.{FitLiteral, Planned, SegmentFit, SegmentScanned};
+ghost use Rattle.segment.specs.Steps.{LiteralSlice, FitPlan, BytesPlanned, Planned, SegmentFit, SegmentScanned};
 
 // The plan of a query, made once: where each test's column starts and how many slices it has, and the
 // low and high byte of its literal in each slice, four to a test.
@@ -75,11 +70,9 @@ fn plan_bytes(
     highs: &mut [u8; PLAN_PLACES],
     base: usize,
 )
-    requires { ⌜ FitLiteral width literal × (base + mostSlices ≤ planPlaces)
-        × (length (now lows) ≡ planPlaces) × (length (now highs) ≡ planPlaces) ⌝ }
-    ensures low { λ _. ⌜ Swept (now (lows .entry)) (now (lows .exit)) base (slicesOf width) (λ j. byteOf width literal j) ⌝ }
-    ensures high { λ _. ⌜ Swept (now (highs .entry)) (now (highs .exit)) base (slicesOf width)
-        (λ j. highOf width j (byteOf width literal j)) ⌝ }
+    requires { ⌜ FitPlan width literal base (now lows) (now highs) ⌝ }
+    ensures { λ _. ⌜ BytesPlanned width literal base
+        (now (lows .entry)) (now (lows .exit)) (now (highs .entry)) (now (highs .exit)) ⌝ }
 {
     let slices = codes::slices_of(width);
     let mut j = 0;
@@ -92,7 +85,7 @@ fn plan_bytes(
 
 // The greatest byte of a slice that is the literal's when its pad is cleared.
 fn high_of(width: u8, literal: u64, slice: usize) -> u8
-    requires { ⌜ FitLiteral width literal × (slice < slicesOf width) ⌝ }
+    requires { ⌜ LiteralSlice width literal slice ⌝ }
     ensures { λ r. ⌜ r ≡ highOf width slice (byteOf width literal slice) ⌝ }
 {
     let low = codes::byte_of(width, literal, slice);

@@ -79,7 +79,7 @@ returns-3 c =
     promised (startOf past) (outcomes.too-many-tests _ _ _ _ (opened past) (right sized) (c .before .if2 .taken) (c .refused2 .ensures))
 
 judge-tests-requires : tie.Need-judge-tests-requires
-judge-tests-requires c κs = (opened (knownOf (c .before)), c .before .if2 .left)
+judge-tests-requires c κs = record { opened = opened (knownOf (c .before)); few = c .before .if2 .left }
 
 enum-known-verdict : tie.Need-enum-known-verdict
 enum-known-verdict c = search needs
@@ -91,7 +91,7 @@ returns-4 c =
     let past = knownOf few in
     promised (startOf past)
     (outcomes.unfit-test _ _ _ _ (opened past) (right (few .before)) (few .if2 .left) _
-    (sym (said .judge-tests .ensures .0) ∙ c .before .verdict .given .1) refl)
+    (sym (said .judge-tests .ensures .first) ∙ c .before .verdict .given .1) refl)
 
 enum-told-2 : tie.Need-enum-told-2
 enum-told-2 c = search needs
@@ -103,7 +103,7 @@ returns-5 c =
     let past = knownOf few in
     promised (startOf past)
     (outcomes.fitting _ _ _ _ (opened past) (right (few .before)) (few .if2 .left)
-    (sym (said .judge-tests .ensures .0) ∙ c .enum-told2 .given .1) refl)
+    (sym (said .judge-tests .ensures .first) ∙ c .enum-told2 .given .1) refl)
 
 pub ask-spec : {M : Type 1} → statement M
 ask-spec =

@@ -31,7 +31,7 @@ as-many : (c : tie.At-loop Inv-loop μ-loop) →
     length (take (a .count) (a .t3)) ≡ a .count
 as-many c =
     let start = startOf c in
-    length-take-le (start .args .count) (start .args .t3) (omega (arith, start .pre .1, start .good .1 .1 .0 .1 .0 .1))
+    length-take-le (start .args .count) (start .args .t3) (omega (arith, start .pre .few, start .good .1 .1 .0 .1 .0 .1))
 
 -- the test at hand is one of them, and its verdict is known
 abbrev turnOf : tie.After-judge-test Inv-loop μ-loop → tie.In-loop Inv-loop μ-loop
@@ -60,7 +60,7 @@ array-copy-out-test : tie.Need-array-copy-out-test Inv-loop μ-loop
 array-copy-out-test c = omega arith
 
 judge-test-requires : tie.Need-judge-test-requires Inv-loop μ-loop
-judge-test-requires c κs = startOf (c .before .before) .pre .0
+judge-test-requires c κs = startOf (c .before .before) .pre .opened
 
 enum-told : tie.Need-enum-told Inv-loop μ-loop
 enum-told c = search needs
@@ -74,7 +74,7 @@ returns c =
     let judged = c .before .before in
     let turn = turnOf judged in
     let answers = judging.unfit-answers _ _ _ _ (there turn) (turn .before .loop .inv .1) _ (said judged ∙ told) in
-    (told ∙ sym answers, λ e. absurd (judging.unfit-is-not-fit (sym told ∙ e)))
+    record { first = told ∙ sym answers; judged = λ e. absurd (judging.unfit-is-not-fit (sym told ∙ e)) }
 
 add-t : tie.Need-add-t Inv-loop μ-loop
 add-t c = omega arith
@@ -97,8 +97,11 @@ returns-2 c =
     let none-left = drop-of-length-le (take (start .args .count) (start .args .t3)) {i = turn .loop .t}
     (omega (arith, as-many turn, c .loop-test .left)) in
     let none-answers = ends (rw none-left at (turn .loop .inv .1)) in
-    let room : start .args .count ≤ length (start .args .t3) = omega (arith, start .pre .1, start .good .1 .1 .0 .1 .0 .1) in
-    (sym (ap verdictOf none-answers), λ e. judging.judged _ _ _ _ (start .pre .0) (start .pre .1) room 0 none-answers)
+    let room : start .args .count ≤ length (start .args .t3) = omega (arith, start .pre .few, start .good .1 .1 .0 .1 .0 .1) in
+    record {
+      first = sym (ap verdictOf none-answers);
+      judged = λ e. judging.judged _ _ _ _ (start .pre .opened) (start .pre .few) room 0 none-answers;
+    }
 
 pub judge-tests-spec : {M : Type 1} → statement M
 judge-tests-spec =

@@ -42,7 +42,11 @@ scan-rows-requires : tie.Need-scan-rows-requires
 scan-rows-requires c κs =
     let known = c .before .before in
     let fit = known .before .before .before .ask .ensures .1 (shapeAt known) (known .before .held .given .1) in
-    (fit .0, (fit .1, rw (as-long c) (enough _ (startOf known .args .asked) (startOf known .pre) _ (told known))))
+    record {
+      judged = fit .0;
+      sized = fit .1;
+      room = rw (as-long c) (enough _ (startOf known .args .asked) (startOf known .pre) _ (told known));
+    }
 
 returns-2 : tie.Need-returns-2
 returns-2 c =

@@ -22,14 +22,14 @@ loop-holds c = (omega arith, swept-nothing _ 0 _)
 add-counts : tie.Need-add-counts Inv-loop μ-loop
 add-counts c =
     let turn = c .before .before .before .loop in
-    let small = c .before .before .before .before .pre .1 (turn .t) (omega arith) in
+    let small = c .before .before .before .before .pre .small (turn .t) (omega arith) in
     omega (arith, turn .inv .1 .behind (turn .t) (omega arith))
 
 loop-again : tie.Need-loop-again Inv-loop μ-loop
 loop-again c =
     let turn = c .before .before .before .loop in
     let start = c .before .before .before .before in
-    (omega arith, swept-next (turn .inv .1) (omega (arith, start .pre .0)) (λ ahead. rw ahead))
+    (omega arith, swept-next (turn .inv .1) (omega (arith, start .pre .whole)) (λ ahead. rw ahead))
 
 returns : tie.Need-returns Inv-loop μ-loop
 returns c =

@@ -69,7 +69,7 @@ scan-rows-requires c κs =
     let room = c .before .before in
     let past = room .before .before in
     let fit = past .before .before .before .ask .ensures .1 (shapeAt past) (past .before .asked .given .1) in
-    (fit .0, (fit .1, rw (room .before .bytes-for .ensures) at (room .if1 .left)))
+    record { judged = fit .0; sized = fit .1; room = rw (room .before .bytes-for .ensures) at (room .if1 .left) }
 
 same-length : tie.Need-same-length
 same-length c = search needs

@@ -36,7 +36,7 @@ segmentOf c = c .before .before .before .before .before .before .before .before 
 
 -- a segment is whole bytes
 sized : (c : tie.At-loop Inv-loop μ-loop) → Eighths (startOf c .args .size)
-sized c = in-eighths _ (startOf c .pre .1 .0)
+sized c = in-eighths _ (startOf c .pre .sized)
 
 -- the rows are the file's, and few, and every test has a slot
 fit : (c : tie.At-loop Inv-loop μ-loop) →
@@ -44,10 +44,10 @@ fit : (c : tie.At-loop Inv-loop μ-loop) →
     (a .shape .rows ≡ rowsIn (a .file .now)) × (a .shape .rows ≤ mostRows) × (a .count ≤ length (a .tests))
 fit c =
     let start = startOf c in
-    let opened = start .pre .0 .opened in (
+    let opened = start .pre .judged .opened in (
       rows-as-opened _ _ opened,
       few-rows-as-opened _ _ opened,
-      omega (arith, start .pre .0 .few, start .good .1 .1 .1 .0 .1 .0 .1),
+      omega (arith, start .pre .judged .few, start .good .1 .1 .1 .0 .1 .0 .1),
     )
 
 -- no column of a test is too wide
@@ -55,7 +55,7 @@ narrow-columns : (c : tie.At-loop Inv-loop μ-loop) →
     let a = startOf c .args in
     (t : ℕ) → t < a .count → widthIn (a .file .now) (testAt (a .tests) t .column) ≤ widest
 narrow-columns c t h =
-    let judged = startOf c .pre .0 in
+    let judged = startOf c .pre .judged in
     width-as-opened _ _ (judged .opened) _ (judged .columns t h) .1
 
 loop-holds : tie.Need-loop-holds Inv-loop μ-loop
@@ -70,7 +70,7 @@ scan-segment-requires c κs =
     let most = sized (turn .before) .most in (
       record {
         columns = start .args .shape .columns;
-        judged = start .pre .0;
+        judged = start .pre .judged;
         short = omega (arith, rows .least .ensures);
         within = omega (arith, rows .least .ensures, turn .loop-test .taken);
       },
@@ -83,12 +83,14 @@ add-counts-requires c κs =
     let rows = leastOf scanned in
     let turn = rows .before in
     let start = startOf (turn .before) in
-    let far = turn .before .loop .inv in (
-      far .sixteen,
-      λ t h.
+    let far = turn .before .loop .inv in
+    record {
+      whole = far .sixteen;
+      small =
+          λ t h.
           sums-small _ _ _ _ _ (sized (turn .before)) _ _ _ _ _ far (fit (turn .before) .1) (narrow-columns (turn .before))
-          (start .pre .0 .few) (turn .loop-test .taken) _ (rows .least .ensures) _ (scanned .scan-segment .ensures) t,
-    )
+          (start .pre .judged .few) (turn .loop-test .taken) _ (rows .least .ensures) _ (scanned .scan-segment .ensures) t;
+    }
 
 put-bits-requires : tie.Need-put-bits-requires Inv-loop μ-loop
 put-bits-requires c κs =
@@ -101,7 +103,7 @@ put-bits-requires c κs =
       found = found-rows _ _ _ _ _ _ (omega (arith, rows .least .ensures)) (scanned .scan-segment .ensures);
       room =
           room-for-segment _ _ _ _ _ (sized (turn .before)) _ _ _ _ _ (turn .before .loop .inv)
-          (start .pre .0 .few) (turn .loop-test .taken) _ (rows .least .ensures) (start .pre .1 .1);
+          (start .pre .judged .few) (turn .loop-test .taken) _ (rows .least .ensures) (start .pre .room);
     }
 
 add-matches : tie.Need-add-matches Inv-loop μ-loop
@@ -135,9 +137,9 @@ loop-again c =
     let start = startOf (turn .before) in
     let put = c .before .before in
     let added = put .before .before .before in
-    one-more-segment _ _ _ _ _ (sized (turn .before)) (start .pre .0 .few) _ _ _ _ _ (turn .before .loop .inv) (turn .loop-test .taken) _
+    one-more-segment _ _ _ _ _ (sized (turn .before)) (start .pre .judged .few) _ _ _ _ _ (turn .before .loop .inv) (turn .loop-test .taken) _
     (rows .least .ensures) _ (scanned .scan-segment .ensures) _ _ _ (added .add-counts .ensures) (put .put-bits .ensures .counted)
-    (put .put-bits .ensures .left) (start .pre .1 .1)
+    (put .put-bits .ensures .left) (start .pre .room)
 
 sum-of-requires : tie.Need-sum-of-requires Inv-loop μ-loop
 sum-of-requires c κs =
@@ -153,9 +155,9 @@ returns c =
     let turn = ended .before in
     let start = startOf turn in
     let known = fit turn in (
-      all-scanned _ _ _ _ _ (known .0) (sized turn) (start .pre .0 .few) (known .2) _ _ _ _ _ (turn .loop .inv) (ended .loop-test .left) _
+      all-scanned _ _ _ _ _ (known .0) (sized turn) (start .pre .judged .few) (known .2) _ _ _ _ _ (turn .loop .inv) (ended .loop-test .left) _
           (c .sum-of .ensures) refl,
-      all-put _ _ _ _ _ (known .0) (sized turn) (start .pre .0 .few) (known .2) _ _ _ _ _ (turn .loop .inv) (ended .loop-test .left),
+      all-put _ _ _ _ _ (known .0) (sized turn) (start .pre .judged .few) (known .2) _ _ _ _ _ (turn .loop .inv) (ended .loop-test .left),
     )
 
 pub scan-rows-spec : {M : Type 1} → statement M

@@ -27,10 +27,10 @@ is-a-byte : (c : tie.After-unit-of) →
     highOf (a .width) (a .slice) (byteOf (a .width) (a .literal) (a .slice)) < 256
 is-a-byte c =
     let start = c .before .before .before .before .before in
-    high-is-a-byte (start .args .width) (start .args .literal) (start .args .slice) (start .pre .0 .1) (start .pre .1)
+    high-is-a-byte (start .args .width) (start .args .literal) (start .args .slice) (start .pre .fit .small) (start .pre .there)
 
 add-if1 : tie.Need-add-if1
-add-if1 c = omega (arith, few-slices-of (c .before .args .width) (c .before .pre .0 .0))
+add-if1 c = omega (arith, few-slices-of (c .before .args .width) (c .before .pre .fit .narrow))
 
 sub-result : tie.Need-sub-result
 sub-result c = omega (arith, c .unit-of .ensures, pow-pos (padOf (c .before .before .before .before .before .args .width)))
@@ -49,7 +49,7 @@ returns-2 c =
     let start = c .before .before .before in
     let slices = c .before .slices-of .ensures in
     c .before .before .byte-of .ensures
-    ∙ sym (high-before (start .args .width) (start .args .slice) _ (omega (arith, start .pre .1, c .if1 .left)))
+    ∙ sym (high-before (start .args .width) (start .args .slice) _ (omega (arith, start .pre .there, c .if1 .left)))
 
 pub high-of-spec : {M : Type 1} → statement M
 high-of-spec =

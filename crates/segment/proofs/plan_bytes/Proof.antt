@@ -28,13 +28,13 @@ start c = c .before .before .before
 
 -- four slices at most, so that the place of each is there
 within : (c : tie.In-loop Inv-loop μ-loop) → start c .args .base + c .before .loop .j < planPlaces
-within c = omega (arith, few-slices-of (start c .args .width) (start c .pre .0 .0), c .before .loop .inv .1)
+within c = omega (arith, few-slices-of (start c .args .width) (start c .pre .fit .narrow), c .before .loop .inv .1)
 
 loop-holds : tie.Need-loop-holds Inv-loop μ-loop
 loop-holds c = (omega arith, c .slices-of .ensures, swept-nothing _ _ _, swept-nothing _ _ _)
 
 byte-of-requires : tie.Need-byte-of-requires Inv-loop μ-loop
-byte-of-requires c κs = (start c .pre .0 .0, start c .pre .0 .1, omega (arith, c .before .loop .inv .1))
+byte-of-requires c κs = let fit = start c .pre .fit in (fit .narrow, fit .small, omega (arith, c .before .loop .inv .1))
 
 add-lows : tie.Need-add-lows Inv-loop μ-loop
 add-lows c = omega (arith, within (c .before))
@@ -43,7 +43,9 @@ element-write-lows : tie.Need-element-write-lows Inv-loop μ-loop
 element-write-lows c = within (c .before)
 
 high-of-requires : tie.Need-high-of-requires Inv-loop μ-loop
-high-of-requires c κs = let turn = c .before in (start turn .pre .0, omega (arith, turn .before .loop .inv .1))
+high-of-requires c κs =
+    let turn = c .before in
+    record { fit = start turn .pre .fit; there = omega (arith, turn .before .loop .inv .1) }
 
 add-highs : tie.Need-add-highs Inv-loop μ-loop
 add-highs c = omega (arith, within (c .before .before))
@@ -58,15 +60,15 @@ loop-again c =
     let pre = start turn .pre in (
       omega arith,
       counted,
-      swept-one-more _ _ _ _ _ _ low (omega (arith, within turn, pre .2)) (c .before .byte-of .ensures),
-      swept-one-more _ _ _ _ _ _ high (omega (arith, within turn, pre .3)) (c .high-of .ensures),
+      swept-one-more _ _ _ _ _ _ low (omega (arith, within turn, pre .all-lows)) (c .before .byte-of .ensures),
+      swept-one-more _ _ _ _ _ _ high (omega (arith, within turn, pre .all-highs)) (c .high-of .ensures),
     )
 
 returns : tie.Need-returns Inv-loop μ-loop
 returns c =
     let turn = c .before .loop in
     let end : turn .j ≡ slicesOf (c .before .before .before .args .width) = omega (arith, turn .inv .1) in
-    (rw end at (turn .inv .2), rw end at (turn .inv .3))
+    record { low = rw end at (turn .inv .2); high = rw end at (turn .inv .3) }
 
 pub plan-bytes-spec : {M : Type 1} → statement M
 plan-bytes-spec =

@@ -51,7 +51,12 @@ plan-bytes-requires c κs =
     let turn = width .before .before in
     let start = turn .before .before .before in
     let long = turn .before .loop .inv .2 in
-    (literal-here (c .before .before .before .before), omega (arith, start .pre .few, turn .loop-test .taken), long .2, long .3)
+    record {
+      fit = literal-here (c .before .before .before .before);
+      room = omega (arith, start .pre .few, turn .loop-test .taken);
+      all-lows = long .2;
+      all-highs = long .3;
+    }
 
 loop-again : tie.Need-loop-again Inv-loop μ-loop
 loop-again c =
@@ -66,13 +71,13 @@ loop-again c =
           (λ u h. width-as-opened _ _ (start .pre .opened) _ (start .pre .columns u (omega (arith, turn .loop-test .taken))) .1)
           (omega (arith, start .pre .few, turn .loop-test .taken)) (omega (arith, start .pre .few, turn .loop-test .taken))
           (slices .before .offset-at .ensures) (slices .slices-of .ensures ∙ ap slicesOf (width .width-at .ensures))
-          (rw (width .width-at .ensures, literal .literal-of .ensures) at (c .plan-bytes .ensures .0))
-          (rw (width .width-at .ensures, literal .literal-of .ensures) at (c .plan-bytes .ensures .1)),
+          (rw (width .width-at .ensures, literal .literal-of .ensures) at (c .plan-bytes .ensures .low))
+          (rw (width .width-at .ensures, literal .literal-of .ensures) at (c .plan-bytes .ensures .high)),
       (
         rw length-set (long .0),
         rw length-set (long .1),
-        c .plan-bytes .ensures .0 .same-length ∙ long .2,
-        c .plan-bytes .ensures .1 .same-length ∙ long .3,
+        c .plan-bytes .ensures .low .same-length ∙ long .2,
+        c .plan-bytes .ensures .high .same-length ∙ long .3,
       ),
     )
 
