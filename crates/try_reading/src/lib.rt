@@ -1,10 +1,8 @@
 // Reads a request: the numbers of a line, and of these the slices and the outputs of a call. A cursor goes from one to the
 // next; it is NOWHERE from the first on that cannot be read, so that a call looks at the last alone.
 ghost use mathlib.Core.Path.{_≡_};
-ghost use Prim.Native.Nat.{_<_, _≤_};
-ghost use lib.ListN.{length, take, getD};
-ghost use Rattle.io.specs.Counts.{Counts};
-ghost use Rattle.try_reading.specs.Requests.{behindOf, isDigit, numbersIn, NumbersRead, partAt, elementsAt, fitting, sliceAt, RoomAt};
+ghost use lib.ListN.{getD};
+ghost use Rattle.try_reading.specs.Requests.{isDigit, Behind, NumbersPut, PartFound, Copied, SlicePut, RoomFound};
 
 pub const NOWHERE: usize = 18446744073709551615;
 
@@ -36,9 +34,7 @@ pub struct Room {
 
 // The place behind the first of these bytes, or the end.
 pub fn behind(bytes: &[u8], byte: u8) -> usize
-    ensures place { λ r. ⌜ r ≡ behindOf byte (now (bytes .entry)) ⌝ }
-    ensures within { λ r. ⌜ Counts r (now (bytes .entry)) ⌝ }
-    ensures some { λ r. ⌜ (0 < length (now (bytes .entry)) → 0 < r) ⌝ }
+    ensures { λ r. ⌜ Behind byte (now (bytes .entry)) r ⌝ }
 {
     let mut i = 0;
     while i < bytes.len() {
@@ -52,8 +48,7 @@ pub fn behind(bytes: &[u8], byte: u8) -> usize
 
 // Puts the numbers of a text, its runs of digits, into what is lent for them.
 pub fn numbers_of(text: &[u8], out: &mut [u64]) -> Numbers
-    ensures read { λ r. ⌜ NumbersRead (numbersIn (now (text .entry))) (length (now (out .entry))) (now (out .exit)) (r .count) (r .all) ⌝ }
-    ensures within { λ r. ⌜ Counts (r .count) (now (out .exit)) ⌝ }
+    ensures { λ r. ⌜ NumbersPut (now (text .entry)) (now (out .entry)) (now (out .exit)) (r .count) (r .all) ⌝ }
 {
     let mut count: usize = 0;
     let mut value: u64 = 0;
@@ -107,8 +102,7 @@ pub fn number_at(numbers: &[u64], at: usize) -> u64
 
 // The slice at a place: its length, and then its elements.
 pub fn part_at(numbers: &[u64], at: usize) -> Part
-    ensures answer { λ r. ⌜ r ≡ partAt (now (numbers .entry)) at ⌝ }
-    ensures within { λ r. ⌜ (r .from ≤ r .to) × (r .to ≤ length (now (numbers .entry))) ⌝ }
+    ensures { λ r. ⌜ PartFound (now (numbers .entry)) at r ⌝ }
 {
     let nowhere = Part {
         from: 0,
@@ -131,9 +125,7 @@ pub fn part_at(numbers: &[u64], at: usize) -> Part
 
 // Puts the slice of bytes at a place into what is lent for it.
 pub fn bytes_at(numbers: &[u64], at: usize, out: &mut [u8]) -> Slice
-    ensures answer { λ r. ⌜ r ≡ sliceAt 255 (length (now (out .entry))) (now (numbers .entry)) at ⌝ }
-    ensures left { λ r. ⌜ take (r .count) (now (out .exit)) ≡ take (r .count) (elementsAt (now (numbers .entry)) at) ⌝ }
-    ensures within { λ r. ⌜ Counts (r .count) (now (out .exit)) ⌝ }
+    ensures { λ r. ⌜ SlicePut 255 (now (numbers .entry)) at (now (out .entry)) (now (out .exit)) r ⌝ }
 {
     let part = part_at(numbers, at);
     let from = part.from;
@@ -153,9 +145,7 @@ pub fn bytes_at(numbers: &[u64], at: usize, out: &mut [u8]) -> Slice
 
 // The same for a slice of row numbers.
 pub fn rows_at(numbers: &[u64], at: usize, out: &mut [u32]) -> Slice
-    ensures answer { λ r. ⌜ r ≡ sliceAt 4294967295 (length (now (out .entry))) (now (numbers .entry)) at ⌝ }
-    ensures left { λ r. ⌜ take (r .count) (now (out .exit)) ≡ take (r .count) (elementsAt (now (numbers .entry)) at) ⌝ }
-    ensures within { λ r. ⌜ Counts (r .count) (now (out .exit)) ⌝ }
+    ensures { λ r. ⌜ SlicePut 4294967295 (now (numbers .entry)) at (now (out .entry)) (now (out .exit)) r ⌝ }
 {
     let part = part_at(numbers, at);
     let from = part.from;
@@ -175,9 +165,7 @@ pub fn rows_at(numbers: &[u64], at: usize, out: &mut [u32]) -> Slice
 
 // Copies numbers up to the first that is no byte or has no room, and answers how many.
 fn copy_bytes(numbers: &[u64], out: &mut [u8]) -> usize
-    ensures answer { λ r. ⌜ r ≡ fitting 255 (length (now (out .entry))) (now (numbers .entry)) ⌝ }
-    ensures left { λ r. ⌜ take r (now (out .exit)) ≡ take r (now (numbers .entry)) ⌝ }
-    ensures within { λ r. ⌜ (r ≤ length (now (numbers .entry))) × (r ≤ length (now (out .exit))) ⌝ }
+    ensures { λ r. ⌜ Copied 255 (now (numbers .entry)) (now (out .entry)) (now (out .exit)) r ⌝ }
 {
     let mut i = 0;
     while i < numbers.len() {
@@ -195,9 +183,7 @@ fn copy_bytes(numbers: &[u64], out: &mut [u8]) -> usize
 
 // The same for row numbers, of 32 bits.
 fn copy_rows(numbers: &[u64], out: &mut [u32]) -> usize
-    ensures answer { λ r. ⌜ r ≡ fitting 4294967295 (length (now (out .entry))) (now (numbers .entry)) ⌝ }
-    ensures left { λ r. ⌜ take r (now (out .exit)) ≡ take r (now (numbers .entry)) ⌝ }
-    ensures within { λ r. ⌜ (r ≤ length (now (numbers .entry))) × (r ≤ length (now (out .exit))) ⌝ }
+    ensures { λ r. ⌜ Copied 4294967295 (now (numbers .entry)) (now (out .entry)) (now (out .exit)) r ⌝ }
 {
     let mut i = 0;
     while i < numbers.len() {
@@ -215,8 +201,7 @@ fn copy_rows(numbers: &[u64], out: &mut [u32]) -> usize
 
 // The output at a place, of at most so many elements, which ends the request.
 pub fn room_at(numbers: &[u64], at: usize, most: usize) -> Room
-    ensures answer { λ r. ⌜ RoomAt most (now (numbers .entry)) at r (r .good) ⌝ }
-    ensures within { λ r. ⌜ r .elements ≤ most ⌝ }
+    ensures { λ r. ⌜ RoomFound most (now (numbers .entry)) at r ⌝ }
 {
     let none = Room {
         elements: 0,

@@ -18,31 +18,31 @@ add-next : tie.Need-add-next Inv-loop μ-loop
 add-next c =
     let turn = c .before .before .before .loop in
     let rest = rest-length (c .before .before .before .before .before .before .args .requests .now) (turn .at) in
-    omega (arith, c .behind .ensures .1 .0 .0, rest)
+    omega (arith, c .behind .ensures .within .0, rest)
 
 part-answer-end : tie.Need-part-answer-end Inv-loop μ-loop
 part-answer-end c =
     let turn = c .before .before .before .loop in
     let rest = rest-length (c .before .before .before .before .before .before .args .requests .now) (turn .at) in
-    omega (arith, c .behind .ensures .1 .0 .0, rest)
+    omega (arith, c .behind .ensures .within .0, rest)
 
 loop-less : tie.Need-loop-less Inv-loop μ-loop
 loop-less c =
     let begun = c .before .before .before .before .before .before .before .before in
     let turn = begun .loop in
-    let line = c .before .before .before .before .before .behind .ensures .1 in
+    let line = c .before .before .before .before .before .behind .ensures in
     let rest = rest-length (begun .before .before .before .args .requests .now) (turn .at) in
-    let some = line .1 (rw rest (omega arith)) in
-    omega (arith, line .0 .0, rest, some)
+    let some = line .some (rw rest (omega arith)) in
+    omega (arith, line .within .0, rest, some)
 
 loop-again : tie.Need-loop-again Inv-loop μ-loop
 loop-again c =
     let begun = c .before .before .before .before .before .before .before .before in
     let turn = begun .loop in
-    let line = c .before .before .before .before .before .behind .ensures .1 in
+    let line = c .before .before .before .before .before .behind .ensures in
     let rest = rest-length (begun .before .before .before .args .requests .now) (turn .at) in
-    let some = line .1 (rw rest (omega arith)) in
-    (omega (arith, line .0 .0, rest), omega (arith, rest, some), search needs)
+    let some = line .some (rw rest (omega arith)) in
+    (omega (arith, line .within .0, rest), omega (arith, rest, some), search needs)
 
 pub answer-all-spec : {M : Type 1} → statement M
 answer-all-spec =

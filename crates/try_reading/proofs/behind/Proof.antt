@@ -23,7 +23,7 @@ returns c =
     let turn = c .before .before .before .loop in
     let bytes = c .before .before .before .before .args .bytes .now in
     let found = here bytes (turn .i) (omega arith) (c .before .before .before .before .args .byte) (c .if1 .taken) in
-    (omega (arith, turn .inv .1, found), (counted _ _ (omega arith), λ some. omega arith))
+    record { found = omega (arith, turn .inv .1, found); within = counted _ _ (omega arith); some = λ some. omega arith }
 
 loop-again : tie.Need-loop-again Inv-loop μ-loop
 loop-again c =
@@ -39,7 +39,7 @@ returns-2 c =
     let bytes = c .before .before .args .bytes .now in
     let none : behindOf (c .before .before .args .byte) (drop (turn .i) bytes) ≡ 0 =
     rw (drop-of-length-le bytes {i = turn .i} (omega arith)) refl in
-    (omega (arith, turn .inv .1, none), (counted _ _ (omega arith), λ some. omega arith))
+    record { found = omega (arith, turn .inv .1, none); within = counted _ _ (omega arith); some = λ some. omega arith }
 
 pub behind-spec : {M : Type 1} → statement M
 behind-spec =

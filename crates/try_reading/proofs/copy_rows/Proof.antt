@@ -26,7 +26,7 @@ returns-2 c =
     let turn = c .before .before .before .before .loop in
     let numbers = c .before .before .before .before .before .args .numbers .now in
     let large = ends-small numbers (turn .i) (omega arith) 4294967295 (c .if2 .taken) in
-    (omega (arith, turn .inv .3, large), (turn .inv .4, (omega arith, omega arith)))
+    record { counted = omega (arith, turn .inv .3, large); front = turn .inv .4; there = omega arith; within = omega arith }
 
 loop-again : tie.Need-loop-again Inv-loop μ-loop
 loop-again c =
@@ -48,7 +48,7 @@ returns-3 c =
     let turn = c .before .loop in
     let numbers = c .before .before .args .numbers .now in
     let none : smallOf 4294967295 (drop (turn .i) numbers) ≡ 0 = rw (drop-of-length-le numbers {i = turn .i} (omega arith)) refl in
-    (omega (arith, turn .inv .3, none), (turn .inv .4, (omega arith, omega arith)))
+    record { counted = omega (arith, turn .inv .3, none); front = turn .inv .4; there = omega arith; within = omega arith }
 
 pub copy-rows-spec : {M : Type 1} → statement M
 copy-rows-spec =

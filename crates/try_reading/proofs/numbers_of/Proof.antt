@@ -43,7 +43,10 @@ returns c =
     let found =
     large-stays (drop (turn .i + 1) text) (turn .value * 10 + (getD text (turn .i) 0 - 48))
     (omega (arith, c .before .wide64 .ensures .0)) in
-    (large (found .0) (rw all (member-behind front (found .1))) (found .2), counted _ _ (turn .inv .1))
+    record {
+      read = large (found .0) (rw all (member-behind front (found .1))) (found .2);
+      within = counted _ _ (turn .inv .1);
+    }
 
 loop-again : tie.Need-loop-again Inv-loop μ-loop
 loop-again c =
@@ -67,7 +70,10 @@ returns-2 c =
     turn .inv .3
     ∙ ap (λ (l : List ℕ). front ++ l) (rw (c .before .if3 .taken) (ended text (turn .i) (omega arith) (turn .value) other)) in
     let many-more = longer _ front _ _ all in
-    (many (omega (arith, many-more, length-take-le (turn .count) (turn .out) (turn .inv .1), turn .inv .2)), counted _ _ (turn .inv .1))
+    record {
+      read = many (omega (arith, many-more, length-take-le (turn .count) (turn .out) (turn .inv .1), turn .inv .2));
+      within = counted _ _ (turn .inv .1);
+    }
 
 loop-again-2 : tie.Need-loop-again-2 Inv-loop μ-loop
 loop-again-2 c =
@@ -105,7 +111,10 @@ returns-3 c =
     let all : numbersIn text ≡ front ++ (turn .value ∷ []) =
     turn .inv .3 ∙ ap (λ (l : List ℕ). front ++ l) (rw (c .before .if5 .taken) (last-ended text (turn .i) (turn .value) (omega arith))) in
     let many-more = longer _ front _ _ all in
-    (many (omega (arith, many-more, length-take-le (turn .count) (turn .out) (turn .inv .1), turn .inv .2)), counted _ _ (turn .inv .1))
+    record {
+      read = many (omega (arith, many-more, length-take-le (turn .count) (turn .out) (turn .inv .1), turn .inv .2));
+      within = counted _ _ (turn .inv .1);
+    }
 
 returns-4 : tie.Need-returns-4 Inv-loop μ-loop
 returns-4 c =
@@ -113,10 +122,11 @@ returns-4 c =
     let text = c .before .before .before .before .before .before .args .text .now in
     let front = take (turn .count) (turn .out) in
     let all : numbersIn text ≡ front ++ (turn .value ∷ []) =
-    turn .inv .3 ∙ ap (λ (l : List ℕ). front ++ l) (rw (c .before .if5 .taken) (last-ended text (turn .i) (turn .value) (omega arith))) in (
-      all ∙ sym (pushed (turn .out) (turn .count) (turn .value) [] (omega arith)) ∙ append-nil _,
-      counted _ _ (simp length-set (omega arith)),
-    )
+    turn .inv .3 ∙ ap (λ (l : List ℕ). front ++ l) (rw (c .before .if5 .taken) (last-ended text (turn .i) (turn .value) (omega arith))) in
+    record {
+      read = all ∙ sym (pushed (turn .out) (turn .count) (turn .value) [] (omega arith)) ∙ append-nil _;
+      within = counted _ _ (simp length-set (omega arith));
+    }
 
 returns-5 : tie.Need-returns-5 Inv-loop μ-loop
 returns-5 c =
@@ -125,7 +135,7 @@ returns-5 c =
     let front = take (turn .count) (turn .out) in
     let all : numbersIn text ≡ front ++ [] =
     turn .inv .3 ∙ ap (λ (l : List ℕ). front ++ l) (rw (c .if5 .left) (none-begun text (turn .i) (turn .value) (omega arith))) in
-    (all ∙ append-nil front, counted _ _ (turn .inv .1))
+    record { read = all ∙ append-nil front; within = counted _ _ (turn .inv .1) }
 
 pub numbers-of-spec : {M : Type 1} → statement M
 numbers-of-spec =

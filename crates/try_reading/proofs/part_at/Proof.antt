@@ -14,21 +14,33 @@ unfolding partAt
 returns c =
     let args = c .before .args in
     let numbers = args .numbers .now in
-    (rw (le-ltb (args .at + getD numbers (args .at) 0) (length numbers) (omega arith)) refl, (omega arith, omega arith))
+    record {
+      found = rw (le-ltb (args .at + getD numbers (args .at) 0) (length numbers) (omega arith)) refl;
+      forward = omega arith;
+      within = omega arith;
+    }
 
 returns-2 : tie.Need-returns-2
 unfolding partAt
 returns-2 c =
     let args = c .before .before .before .args in
     let numbers = args .numbers .now in
-    (rw (le-ltb (args .at + getD numbers (args .at) 0) (length numbers) (omega arith)) refl, (omega arith, omega arith))
+    record {
+      found = rw (le-ltb (args .at + getD numbers (args .at) 0) (length numbers) (omega arith)) refl;
+      forward = omega arith;
+      within = omega arith;
+    }
 
 returns-3 : tie.Need-returns-3
 unfolding partAt
 returns-3 c =
     let args = c .before .before .before .args in
     let numbers = args .numbers .now in
-    (rw (lt-ltb (args .at + getD numbers (args .at) 0) (length numbers) (omega arith)) refl, (omega arith, omega arith))
+    record {
+      found = rw (lt-ltb (args .at + getD numbers (args .at) 0) (length numbers) (omega arith)) refl;
+      forward = omega arith;
+      within = omega arith;
+    }
 
 pub part-at-spec : {M : Type 1} → statement M
 part-at-spec =
