@@ -119,7 +119,7 @@ abbrev pub RoomAt : ℕ → List ℕ → ℕ → Room → Bool → Type 0
 RoomAt most numbers at room true = IsRoom most numbers at (room .elements) (room .lent)
 RoomAt most numbers at room false = (elements lent : ℕ) → IsRoom most numbers at elements lent → ⊥
 
--- either was found, and no more elements than that
+-- which of the two was found, and the output has at most so many elements
 pub record RoomFound (most : ℕ) (numbers : List ℕ) (at : ℕ) (room : Room) : Type 0 where
   pub found : RoomAt most numbers at room (room .good)
   pub within : room .elements ≤ most

@@ -137,8 +137,8 @@ loop-again c =
     let start = startOf (turn .before) in
     let put = c .before .before in
     let added = put .before .before .before in
-    one-more-segment _ _ _ _ _ (sized (turn .before)) (start .pre .judged .few) _ _ _ _ _ (turn .before .loop .inv) (turn .loop-test .taken) _
-    (rows .least .ensures) _ (scanned .scan-segment .ensures) _ _ _ (added .add-counts .ensures) (put .put-bits .ensures .counted)
+    one-more-segment _ _ _ _ _ (sized (turn .before)) (start .pre .judged .few) _ _ _ _ _ (turn .before .loop .inv) (turn .loop-test .taken)
+    _ (rows .least .ensures) _ (scanned .scan-segment .ensures) _ _ _ (added .add-counts .ensures) (put .put-bits .ensures .counted)
     (put .put-bits .ensures .left) (start .pre .room)
 
 sum-of-requires : tie.Need-sum-of-requires Inv-loop μ-loop
@@ -155,8 +155,8 @@ returns c =
     let turn = ended .before in
     let start = startOf turn in
     let known = fit turn in (
-      all-scanned _ _ _ _ _ (known .0) (sized turn) (start .pre .judged .few) (known .2) _ _ _ _ _ (turn .loop .inv) (ended .loop-test .left) _
-          (c .sum-of .ensures) refl,
+      all-scanned _ _ _ _ _ (known .0) (sized turn) (start .pre .judged .few) (known .2) _ _ _ _ _ (turn .loop .inv)
+          (ended .loop-test .left) _ (c .sum-of .ensures) refl,
       all-put _ _ _ _ _ (known .0) (sized turn) (start .pre .judged .few) (known .2) _ _ _ _ _ (turn .loop .inv) (ended .loop-test .left),
     )
 
