@@ -59,6 +59,11 @@ pub record SegmentFit (file : List ℕ) (rows first n : ℕ) (tests : List Test)
   pub short : n ≤ longestSegment
   pub within : first + n ≤ rows
 
+-- such a segment, and a plan to scan it by
+pub record SegmentPlanned (file : List ℕ) (rows first n : ℕ) (tests : List Test) (count : ℕ) (offsets slices lows highs : List ℕ) : Type 0 where
+  pub fit : SegmentFit file rows first n tests count
+  pub plan : Planned file tests count offsets slices lows highs
+
 -- a segment scanned: 1 for each row found and 0 for every other place; each test's count, and 0 after the last
 pub record SegmentScanned (file : List ℕ) (tests : List Test) (count first n : ℕ) (segment : Segment) : Type 0 where
   pub rows-found : (k : ℕ) → k < n →

@@ -16,7 +16,7 @@ ghost use mathlib.Core.Path.{_≡_};
 ghost use Rattle.codes.specs.Bytes.{byteOf};
 ghost use Rattle.codes.specs.Pad.{highOf};
 ghost use Rattle.asking.specs.Judged.{Judged};
-ghost use Rattle.segment.specs.Steps.{LiteralSlice, FitPlan, BytesPlanned, Planned, SegmentFit, SegmentScanned};
+ghost use Rattle.segment.specs.Steps.{LiteralSlice, FitPlan, BytesPlanned, Planned, SegmentPlanned, SegmentScanned};
 
 // The plan of a query, made once: where each test's column starts and how many slices it has, and the
 // low and high byte of its literal in each slice, four to a test.
@@ -110,8 +110,7 @@ pub fn scan_segment(
     lows: &[u8; PLAN_PLACES],
     highs: &[u8; PLAN_PLACES],
 ) -> Segment
-    requires { ⌜ SegmentFit (now file) rows first n tests count ⌝ }
-    requires { ⌜ Planned (now file) tests count (now offsets) (now slices) (now lows) (now highs) ⌝ }
+    requires { ⌜ SegmentPlanned (now file) rows first n tests count (now offsets) (now slices) (now lows) (now highs) ⌝ }
     ensures { λ r. ⌜ SegmentScanned (now (file .entry)) tests count first n r ⌝ }
 {
     let mut standings = [0u8; STANDING_PLACES];

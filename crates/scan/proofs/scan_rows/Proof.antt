@@ -67,15 +67,16 @@ scan-segment-requires c κs =
     let turn = rows .before in
     let start = startOf (turn .before) in
     let plan = turn .before .before .before .before .before .before in
-    let most = sized (turn .before) .most in (
-      record {
+    let most = sized (turn .before) .most in
+    record {
+      fit = record {
         columns = start .args .shape .columns;
         judged = start .pre .judged;
         short = omega (arith, rows .least .ensures);
         within = omega (arith, rows .least .ensures, turn .loop-test .taken);
-      },
-      plan .plan-of .ensures,
-    )
+      };
+      plan = plan .plan-of .ensures;
+    }
 
 add-counts-requires : tie.Need-add-counts-requires Inv-loop μ-loop
 add-counts-requires c κs =

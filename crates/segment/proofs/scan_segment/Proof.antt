@@ -15,28 +15,28 @@ use Rattle.segment.proofs.Progress.{same-progress, begun, passed-over, 
 use Rattle.segment.proofs.OpenRows.{openIn, none-open}
 use Rattle.segment.proofs.Ending.{scanned}
 use Rattle.segment.proofs.Stepping.{steps-right}
-use Rattle.segment.proofs.scan_segment.Proof.Turns.{Inv-rows, μ-rows, Inv-tests, μ-tests, Inv-slices, μ-slices, SomeOpen}
+use Rattle.segment.proofs.scan_segment.Proof.Turns.{Inv-rows, μ-rows, Inv-tests, μ-tests, Inv-slices, μ-slices, Loops, SomeOpen}
 use Rattle.segment.proofs.scan_segment.Proof.Turns.{workAt, fit, entryOf, sliceOf, testOf, rowsOf, so-far, at-most-one}
 use Rattle.segment.proofs.scan_segment.Proof.Turns.{turnOf, within, counts-it, room, long, entryBefore, ended}
 use Rattle.segment.proofs.scan_segment.Statement.{statement}
 use Rattle.segment.proofs.scan_segment.Tie as tie
 
-in-rows-requires : tie.Need-in-rows-requires Inv-rows μ-rows Inv-tests μ-tests Inv-slices μ-slices
-in-rows-requires c κs = c .before .pre .0 .short
+in-rows-requires : Loops tie.Need-in-rows-requires
+in-rows-requires c κs = c .before .pre .fit .short
 
-slices-holds : tie.Need-slices-holds Inv-rows μ-rows Inv-tests μ-tests Inv-slices μ-slices
+slices-holds : Loops tie.Need-slices-holds
 slices-holds c = (omega arith, begun (fit (c .before .before)) (c .in-rows .ensures .0) (c .in-rows .ensures .1))
 
-tests-holds : tie.Need-tests-holds Inv-rows μ-rows Inv-tests μ-tests Inv-slices μ-slices
+tests-holds : Loops tie.Need-tests-holds
 tests-holds c = (omega arith, c .before .slices .inv .1)
 
-rows-holds : tie.Need-rows-holds Inv-rows μ-rows Inv-tests μ-tests Inv-slices μ-slices
+rows-holds : Loops tie.Need-rows-holds
 rows-holds c = (omega arith, omega arith, refl)
 
-add-open : tie.Need-add-open Inv-rows μ-rows Inv-tests μ-tests Inv-slices μ-slices
+add-open : Loops tie.Need-add-open
 add-open c = omega (arith, at-most-one c)
 
-rows-again : tie.Need-rows-again Inv-rows μ-rows Inv-tests μ-tests Inv-slices μ-slices
+rows-again : Loops tie.Need-rows-again
 rows-again c =
     let turn = c .before .before .before .before .before in
     let r = c .before .before .rows .r in
@@ -44,39 +44,39 @@ rows-again c =
     let more : sum opened (below (r + 1)) ≡ sum opened (below r) + opened r = rw add-one (sum-one-more opened r) in
     (omega arith, omega (arith, at-most-one c), omega (arith, more, c .open-row .ensures))
 
-mul-from-2 : tie.Need-mul-from-2 Inv-rows μ-rows Inv-tests μ-tests Inv-slices μ-slices
+mul-from-2 : Loops tie.Need-mul-from-2
 mul-from-2 c = omega (arith, room (c .before))
 
-add-from : tie.Need-add-from Inv-rows μ-rows Inv-tests μ-tests Inv-slices μ-slices
+add-from : Loops tie.Need-add-from
 add-from c = omega (arith, room (c .before))
 
-add-from-2 : tie.Need-add-from-2 Inv-rows μ-rows Inv-tests μ-tests Inv-slices μ-slices
+add-from-2 : Loops tie.Need-add-from-2
 add-from-2 c = omega (arith, room (c .before))
 
-add-step : tie.Need-add-step Inv-rows μ-rows Inv-tests μ-tests Inv-slices μ-slices
+add-step : Loops tie.Need-add-step
 add-step c = omega (arith, room (c .before .before .before))
 
-part-step-end : tie.Need-part-step-end Inv-rows μ-rows Inv-tests μ-tests Inv-slices μ-slices
+part-step-end : Loops tie.Need-part-step-end
 part-step-end c = omega (arith, room (c .before .before .before))
 
-step-requires : tie.Need-step-requires Inv-rows μ-rows Inv-tests μ-tests Inv-slices μ-slices
+step-requires : Loops tie.Need-step-requires
 step-requires c κs =
     let shown = c .before .before .before .before .before in
     let turn = turnOf shown in
-    (omega (arith, long shown, entryOf turn .pre .0 .short, entryOf turn .pre .0 .judged .few), so-far turn .all-standings)
+    (omega (arith, long shown, entryOf turn .pre .fit .short, entryOf turn .pre .fit .judged .few), so-far turn .all-standings)
 
-add-counts : tie.Need-add-counts Inv-rows μ-rows Inv-tests μ-tests Inv-slices μ-slices
+add-counts : Loops tie.Need-add-counts
 add-counts c =
     let turn = turnOf (c .before .before .before .before .before .before) in
     let few = turn .tests-test .taken in
-    let short = entryOf turn .pre .0 .short in
+    let short = entryOf turn .pre .fit .short in
     omega (
       arith,
       so-far turn .to-count (testOf turn) (omega arith) few,
       counted-few (workAt (entryOf turn)) (testOf turn) (sliceOf turn) short,
     )
 
-tests-again : tie.Need-tests-again Inv-rows μ-rows Inv-tests μ-tests Inv-slices μ-slices
+tests-again : Loops tie.Need-tests-again
 tests-again c =
     let turn = c .before .before in
     let next = turn .tests-test .taken in
@@ -85,12 +85,12 @@ tests-again c =
       omega arith,
       ⊎-elim
           (λ w.
-          let counted : tie.After-rows Inv-rows μ-rows Inv-tests μ-tests Inv-slices μ-slices =
+          let counted : Loops tie.After-rows =
           record { before = record { before = record { before = c .before; if1 = w .0 }; rows = w .1 }; rows-test = w .2 } in
           let shown : SomeOpen = record { before = counted; if2 = w .3 } in
           same-progress (w .10) (w .11) (w .12)
           (taken (so-far turn) next (fit entry) (counts-it shown) (w .9 .ensures) (long shown)
-          (λ k h stands. steps-right (pre .0) (pre .1) (testOf turn) (sliceOf turn) next (within shown) (fit entry .there) _ k h stands)
+          (λ k h stands. steps-right (pre .fit) (pre .plan) (testOf turn) (sliceOf turn) next (within shown) (fit entry .there) _ k h stands)
           refl))
           (⊎-elim
           (λ w.
@@ -100,24 +100,24 @@ tests-again c =
           (λ w.
           same-progress (w .1) (w .2) (w .3)
           (passed-over (so-far turn) next
-          (takes-within (workAt entry) (testOf turn) (sliceOf turn) (omega (arith, w .0 .left, pre .1 .so-many (testOf turn) next))))))
+          (takes-within (workAt entry) (testOf turn) (sliceOf turn) (omega (arith, w .0 .left, pre .plan .so-many (testOf turn) next))))))
           (c .if1 .came),
     )
 
-slices-again : tie.Need-slices-again Inv-rows μ-rows Inv-tests μ-tests Inv-slices μ-slices
+slices-again : Loops tie.Need-slices-again
 slices-again c =
     let tests = c .before .before .before .before .before .tests in
     let entry = c .before .before .before .before .before .before .before .before .before .before in
     (omega arith, next-slice (fit entry) (omega arith) (tests .inv .1) (c .rule-all .ensures))
 
 last-all-requires :
-    tie.Need-last-all-requires Inv-rows μ-rows Inv-tests μ-tests Inv-slices μ-slices
+    Loops tie.Need-last-all-requires
 last-all-requires c κs =
     let left = c .before .before in
-    let pre = entryBefore left .pre .0 in
+    let pre = entryBefore left .pre .fit in
     (pre .judged .few, pre .short, ended left .reached .all-rows)
 
-returns : tie.Need-returns Inv-rows μ-rows Inv-tests μ-tests Inv-slices μ-slices
+returns : Loops tie.Need-returns
 returns c =
     let left = c .before .before .before in
     scanned (fit (entryBefore left)) (ended left) (c .last-all .ensures)

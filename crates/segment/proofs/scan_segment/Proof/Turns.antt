@@ -1,5 +1,6 @@
 -- The three loops of `segment::scan_segment`, over slices, tests and rows: their invariants, and what is known at a turn. Assumes nothing.
 --   Inv-rows, Inv-tests, Inv-slices    the invariants; μ-rows, μ-tests, μ-slices, what each turn makes less
+--   Loops          what is asked with all three
 --   Entry, Turn, RowCounted, SomeOpen, SlicesLeft    the places that the facts speak of
 --   fit            the work on the segment is fit
 --   so-far         at a turn, how far it has come
@@ -52,25 +53,30 @@ Inv-slices file rows first n tests count offsets slices lows highs standings₀ 
 abbrev pub μ-slices : tie.MeasureT-slices
 μ-slices file rows first n tests count offsets slices lows highs standings₀ inside₀ counts₀ j₀ standings inside counts j = mostSlices - j
 
+-- what is asked with these three loops
+abbrev pub Loops : (tie.InvT-rows → tie.MeasureT-rows → tie.InvT-tests → tie.MeasureT-tests → tie.InvT-slices → tie.MeasureT-slices → Type 0) →
+    Type 0
+Loops Asked = Asked Inv-rows μ-rows Inv-tests μ-tests Inv-slices μ-slices
+
 -- the places that the facts below speak of: the entry, a turn of the loop over the tests, a row counted, some row found open
 abbrev pub Entry : Type 0
-Entry = tie.Start Inv-rows μ-rows Inv-tests μ-tests Inv-slices μ-slices
+Entry = Loops tie.Start
 
 abbrev pub Turn : Type 0
-Turn = tie.In-tests Inv-rows μ-rows Inv-tests μ-tests Inv-slices μ-slices
+Turn = Loops tie.In-tests
 
 abbrev pub RowCounted : Type 0
-RowCounted = tie.After-open-row Inv-rows μ-rows Inv-tests μ-tests Inv-slices μ-slices
+RowCounted = Loops tie.After-open-row
 
 abbrev pub SomeOpen : Type 0
-SomeOpen = tie.Then2 Inv-rows μ-rows Inv-tests μ-tests Inv-slices μ-slices
+SomeOpen = Loops tie.Then2
 
 -- the work on the segment, which is fit
 abbrev pub workAt : Entry → Work
 workAt c = workOf (c .args .file .now) (c .args .first) (c .args .n) (c .args .tests) (c .args .count)
 
 pub fit : (c : Entry) → FitWork (workAt c)
-fit c = segment-fits (c .pre .0) (omega arith)
+fit c = segment-fits (c .pre .fit) (omega arith)
 
 -- of a turn: the entry, the slice, the test, the rows that are in, and how far the work has come
 abbrev pub entryOf : Turn → Entry
@@ -111,7 +117,7 @@ pub within : (c : SomeOpen) → sliceOf (turnOf c) < slicesOf (work.testOf (work
 within c =
     let turn = turnOf c in
     let pre = entryOf turn .pre in
-    has-slice (pre .0) (pre .1) (testOf turn) (sliceOf turn) (turn .tests-test .taken) (c .before .before .before .if1 .taken)
+    has-slice (pre .fit) (pre .plan) (testOf turn) (sliceOf turn) (turn .tests-test .taken) (c .before .before .before .if1 .taken)
 
 -- the slice counts for it,
 pub counts-it : (c : SomeOpen) → takes (workAt (entryOf (turnOf c))) (testOf (turnOf c)) (sliceOf (turnOf c)) ≡ true
@@ -125,7 +131,7 @@ pub room : (c : SomeOpen) → fromOf c + entryOf (turnOf c) .args .n ≤ length 
 room c =
     let turn = turnOf c in
     let pre = entryOf turn .pre in
-    bytes-within (pre .0) (pre .1) (testOf turn) (sliceOf turn) (turn .tests-test .taken) (within c) (omega (arith, c .if2 .taken))
+    bytes-within (pre .fit) (pre .plan) (testOf turn) (sliceOf turn) (turn .tests-test .taken) (within c) (omega (arith, c .if2 .taken))
 
 pub long : (c : SomeOpen) →
     let args = entryOf (turnOf c) .args in
@@ -134,7 +140,7 @@ long c = part-long _ _ _ (room c)
 
 -- where the loop over the slices is left, by its test or because all tests are closed
 abbrev pub SlicesLeft : Type 0
-SlicesLeft = tie.Left-slices Inv-rows μ-rows Inv-tests μ-tests Inv-slices μ-slices
+SlicesLeft = Loops tie.Left-slices
 
 abbrev pub entryBefore : SlicesLeft → Entry
 entryBefore c = c .before .before .before .before
