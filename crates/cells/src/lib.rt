@@ -1,18 +1,16 @@
 // The code of a row in a column, its bytes gathered from the slices of a file that is read where it lies.
 use register::Shape;
 ghost use mathlib.Core.Path.{_≡_};
-ghost use Prim.Native.Nat.{_<_, _≤_};
+ghost use Prim.Native.Nat.{_<_};
 ghost use lib.ListN.{length, getD};
-ghost use Rattle.limits.specs.Limits.{widest};
 ghost use Rattle.codes.specs.Bytes.{joined};
-ghost use Rattle.register.specs.declared.Opened.the-variants.{Register};
-ghost use Rattle.register.specs.Opening.{openedOf};
 ghost use Rattle.register.specs.Cells.{codeAt};
-ghost use Rattle.cells.specs.Gathered.{RowWithin, place, gathered};
+ghost use Rattle.register.specs.Columns.{CellThere};
+ghost use Rattle.cells.specs.Gathered.{CodeWithin, place, gathered};
 
 // The code of a row in a column of a file that opened as the shape.
 pub fn code_at(file: &[u8], shape: Shape, column: usize, row: usize) -> u64
-    requires { ⌜ (openedOf (now file) ≡ Register shape) × (column < shape .columns) × (row < shape .rows) ⌝ }
+    requires { ⌜ CellThere (now file) shape column row ⌝ }
     ensures { λ r. ⌜ r ≡ codeAt (now (file .entry)) column row ⌝ }
 {
     let width = register::width_at(file, shape, column);
@@ -23,7 +21,7 @@ pub fn code_at(file: &[u8], shape: Shape, column: usize, row: usize) -> u64
 // The code of a row: its bytes are gathered from the slices of a column that starts at the offset. Each
 // number of slices is a case of its own, so that the bytes need no memory on their way.
 pub fn code_of(file: &[u8], width: u8, offset: usize, rows: usize, row: usize) -> u64
-    requires { ⌜ (0 < width) × (width ≤ widest) × RowWithin (now file) width offset rows row ⌝ }
+    requires { ⌜ CodeWithin (now file) width offset rows row ⌝ }
     ensures { λ r. ⌜ r ≡ joined width (gathered (now (file .entry)) width offset rows row) ⌝ }
 {
     let slices = codes::slices_of(width);

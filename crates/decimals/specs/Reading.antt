@@ -5,12 +5,12 @@ use mathlib.Core.Path.{_≡_}
 use mathlib.Core.List.{List, _∷_, _++_}
 use mathlib.Core.Bool.{cond}
 use lib.Dec.{eqb}
-use lib.ListN.{length, drop}
+use lib.ListN.{length, getD, drop}
 use Rattle.decimals.specs.declared.After.{After}
 use Rattle.decimals.specs.declared.After.the-variants.{Space, LineFeed}
 use Rattle.decimals.specs.declared.Number.{Number}
 use Rattle.decimals.specs.declared.Number.the-variants.{Value, NoNumber}
-use Rattle.decimals.specs.Decimals.{space, lineFeed, decimal}
+use Rattle.decimals.specs.Decimals.{space, lineFeed, digit, decimal}
 
 -- the byte that must follow a decimal
 abbrev pub afterByte : After → ℕ
@@ -28,3 +28,10 @@ NumberAt limit text at after (Value number next) =
     × (drop at text ≡ decimal number ++ (afterByte after ∷ drop next text))
 NumberAt limit text at after NoNumber =
     (number : ℕ) (rest : List ℕ) → number < limit → drop at text ≡ decimal number ++ (afterByte after ∷ rest) → ⊥
+
+-- a number stands at a place as a single digit that begins a decimal, which is at most the greatest
+pub record FirstDigit (text : List ℕ) (from begun most : ℕ) : Type 0 where
+  pub stands : getD text from 0 ≡ digit begun
+  pub some : 0 < begun
+  pub single : begun < 10
+  pub within : begun ≤ most

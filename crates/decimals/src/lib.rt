@@ -1,11 +1,10 @@
 // Reads one decimal at a place of a text, with the byte that must follow it. The caller says how large
 // the number may be, up to the largest of 64 bits.
-ghost use Prim.Native.Nat.{_+_, _*_, _<_, _≤_};
+ghost use Prim.Native.Nat.{_+_, _*_, _≤_};
 ghost use mathlib.Core.Path.{_≡_};
 ghost use lib.Dec.{leb};
 ghost use lib.ListN.{length, getD};
-ghost use Rattle.decimals.specs.Decimals.{digit};
-ghost use Rattle.decimals.specs.Reading.{endedBy, NumberAt};
+ghost use Rattle.decimals.specs.Reading.{endedBy, NumberAt, FirstDigit};
 
 // What must follow a decimal: a space between words, a line feed at the end of a line.
 pub enum After {
@@ -43,7 +42,7 @@ pub fn read_number(text: &[u8], at: usize, after: After, most: u64) -> Number
 // room is told before it is taken in, and no digit comes after it. It ends since each turn leaves less of
 // the text.
 fn read_digits(text: &[u8], from: usize, after: After, begun: u64, most: u64) -> Number
-    requires { ⌜ (getD (now text) from 0 ≡ digit begun) × (0 < begun) × (begun < 10) × (begun ≤ most) ⌝ }
+    requires { ⌜ FirstDigit (now text) from begun most ⌝ }
     ensures { λ r. ⌜ NumberAt (most + 1) (now (text .entry)) from after r ⌝ }
 {
     let mut number = begun;

@@ -2,3 +2,4 @@
 pub mod Layout
 pub mod File
 pub mod Trailer
+pub mod Fitting

@@ -2,13 +2,11 @@
 // lent as a slice of bytes, is read where it lies and is never changed.
 use limits::ENTRY_BYTES;
 ghost use mathlib.Core.Path.{_≡_};
-ghost use Prim.Native.Nat.{_+_, _*_, _≤_};
 ghost use lib.ListN.{length};
-ghost use Rattle.basis.specs.Places.{firstPlace};
-ghost use Rattle.limits.specs.Limits.{mostRows, mostColumns, mostSlices, entryBytes, trailerBytes};
-ghost use Rattle.directory.specs.Layout.{slicesBefore};
-ghost use Rattle.directory.specs.File.{rowsIn, directoryIn, widthIn, unfitEntry, unfitColumn};
+ghost use Rattle.limits.specs.Limits.{entryBytes, trailerBytes};
+ghost use Rattle.directory.specs.File.{unfitEntry};
 ghost use Rattle.directory.specs.Trailer.{TrailerRead};
+ghost use Rattle.directory.specs.Fitting.{DirectoryThere, FitUpTo};
 
 // The numbers of a file's last 16 bytes.
 pub struct Trailer {
@@ -56,11 +54,8 @@ fn unfit_entry(entry: &[u8], offset: usize) -> bool
 
 // Goes through the directory column by column, and ends at the first that is unfit.
 pub fn fit_columns(file: &[u8], directory: usize, rows: usize, columns: usize) -> FitSoFar
-    requires { ⌜ (rows ≡ rowsIn (now file)) × (directory ≡ directoryIn (now file)) ⌝ }
-    requires { ⌜ (rows ≤ mostRows) × (columns ≤ mostColumns) × (directory + entryBytes * columns ≤ length (now file)) ⌝ }
-    ensures { λ r. ⌜ (r .place ≡ firstPlace (unfitColumn (now (file .entry))) columns)
-        × (r .slices ≡ slicesBefore (widthIn (now (file .entry))) (r .place))
-        × (r .slices ≤ mostSlices * r .place) ⌝ }
+    requires { ⌜ DirectoryThere (now file) directory rows columns ⌝ }
+    ensures { λ r. ⌜ FitUpTo (now (file .entry)) columns r ⌝ }
 {
     let mut slices: usize = 0;
     let mut column = 0;

@@ -1,2 +1,3 @@
 -- The file of a register.
 pub mod Layout
+pub mod Steps

@@ -2,20 +2,18 @@
 use limits::ENTRY_BYTES;
 use limits::TRAILER_BYTES;
 ghost use mathlib.Core.Path.{_≡_};
-ghost use Prim.Native.Nat.{_+_, _*_, _≤_};
+ghost use Prim.Native.Nat.{_+_, _≤_};
 ghost use lib.ListN.{length};
 ghost use Rattle.basis.specs.Buffers.{laid};
 ghost use Rattle.basis.specs.Numbers.{toLittle};
-ghost use Rattle.limits.specs.Limits.{mostRows, mostColumns, mostSlices, entryBytes, trailerBytes};
-ghost use Rattle.directory.specs.Layout.{slicesBefore, bytesBefore};
-ghost use Rattle.table.specs.Table.{widthOf, FitWidths, FitCodes};
+ghost use Rattle.limits.specs.Limits.{entryBytes, trailerBytes};
+ghost use Rattle.table.specs.Table.{FitWidths};
 ghost use Rattle.filing.specs.Layout.{entryWith, directoryOf, trailerWith, fileLength, fileOf};
+ghost use Rattle.filing.specs.Steps.{FitShape, FitFile, DirectoryFits, SlicesCounted, BytesCounted};
 
 // Writes body, directory and trailer to the front of `out`.
 pub fn write_file(rows: usize, widths: &[u8], codes: &[u64], out: &mut [u8])
-    requires { ⌜ FitWidths (now widths) ⌝ }
-    requires { ⌜ FitCodes rows (now widths) (now codes) ⌝ }
-    requires { ⌜ fileLength rows (now widths) ≤ length (now out) ⌝ }
+    requires { ⌜ FitFile rows (now widths) (now codes) (now out) ⌝ }
     ensures { λ _. ⌜ now (out .exit) ≡ laid (now (out .entry)) 0 (fileOf rows (now (widths .entry)) (now (codes .entry))) ⌝ }
 {
     let columns = widths.len();
@@ -27,7 +25,7 @@ pub fn write_file(rows: usize, widths: &[u8], codes: &[u64], out: &mut [u8])
 
 // How many bytes the file has.
 pub fn file_length(rows: usize, widths: &[u8]) -> usize
-    requires { ⌜ FitWidths (now widths) × (rows ≤ mostRows) ⌝ }
+    requires { ⌜ FitShape rows (now widths) ⌝ }
     ensures { λ r. ⌜ r ≡ fileLength rows (now (widths .entry)) ⌝ }
 {
     body_length(rows, widths) + ENTRY_BYTES * widths.len() + TRAILER_BYTES
@@ -35,9 +33,8 @@ pub fn file_length(rows: usize, widths: &[u8]) -> usize
 
 // How many bytes the slices of all columns have.
 fn body_length(rows: usize, widths: &[u8]) -> usize
-    requires { ⌜ FitWidths (now widths) × (rows ≤ mostRows) ⌝ }
-    ensures { λ r. ⌜ (r ≡ bytesBefore rows (widthOf (now (widths .entry))) (length (now (widths .entry))))
-        × (r ≤ mostRows * (mostSlices * mostColumns)) ⌝ }
+    requires { ⌜ FitShape rows (now widths) ⌝ }
+    ensures { λ r. ⌜ BytesCounted rows (now (widths .entry)) r ⌝ }
 {
     rows * slices_in(widths)
 }
@@ -45,7 +42,7 @@ fn body_length(rows: usize, widths: &[u8]) -> usize
 // How many slices all columns have.
 fn slices_in(widths: &[u8]) -> usize
     requires { ⌜ FitWidths (now widths) ⌝ }
-    ensures { λ r. ⌜ (r ≡ slicesBefore (widthOf (now (widths .entry))) (length (now (widths .entry)))) × (r ≤ mostSlices * mostColumns) ⌝ }
+    ensures { λ r. ⌜ SlicesCounted (now (widths .entry)) r ⌝ }
 {
     let mut slices: usize = 0;
     let mut column = 0;
@@ -58,8 +55,7 @@ fn slices_in(widths: &[u8]) -> usize
 
 // Writes the directory from a place on: an entry a column.
 fn write_directory(rows: usize, widths: &[u8], out: &mut [u8], at: usize)
-    requires { ⌜ FitWidths (now widths) ⌝ }
-    requires { ⌜ (rows ≤ mostRows) × (at + entryBytes * length (now widths) ≤ length (now out)) ⌝ }
+    requires { ⌜ DirectoryFits rows (now widths) (now out) at ⌝ }
     ensures { λ _. ⌜ now (out .exit) ≡ laid (now (out .entry)) at (directoryOf rows (now (widths .entry))) ⌝ }
 {
     let mut slices: usize = 0;

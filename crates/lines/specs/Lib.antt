@@ -1,2 +1,3 @@
--- The lines of a listing, and a piece of bytes in a lent buffer.
+-- The lines of a listing, and what is known where a row is written.
 pub mod Lines
+pub mod Steps

@@ -4,15 +4,13 @@ use pieces::put;
 use pieces::put_decimal;
 use pieces::put_word;
 use register::Shape;
-ghost use mathlib.Core.Path.{_≡_};
-ghost use Prim.Native.Nat.{_+_, _*_, _^_, _≤_, _<_};
+ghost use Prim.Native.Nat.{_+_, _*_, _^_, _<_};
 ghost use mathlib.Core.List.{_∷_};
 ghost use Rattle.limits.specs.Limits.{mostColumns, longestCell, longestLine};
-ghost use Rattle.register.specs.declared.Opened.the-variants.{Register};
-ghost use Rattle.register.specs.Opening.{openedOf};
 ghost use Rattle.decimals.specs.Decimals.{decimal, space};
-ghost use Rattle.pieces.specs.Pieces.{Wrote};
+ghost use Rattle.pieces.specs.Pieces.{Wrote, WroteUpTo};
 ghost use Rattle.lines.specs.Lines.{headLine, testLine, cells, rowLine, refusedLine};
+ghost use Rattle.lines.specs.Steps.{RowAt};
 
 // The line of a refusal, which is the whole listing then.
 pub fn refused_line(out: &mut [u8], from: usize, refusal: Refusal) -> usize
@@ -27,7 +25,7 @@ pub fn refused_line(out: &mut [u8], from: usize, refusal: Refusal) -> usize
 
 // The first line: the rows, and how many match.
 pub fn head_line(out: &mut [u8], from: usize, rows: usize, matches: usize) -> usize
-    ensures { λ r. ⌜ Wrote from 0 (headLine rows matches) (now (out .entry)) (now (out .exit)) r × (r ≤ longestLine) ⌝ }
+    ensures { λ r. ⌜ WroteUpTo longestLine from 0 (headLine rows matches) (now (out .entry)) (now (out .exit)) r ⌝ }
 {
     let next = put_word(out, from, 0, b"rows ");
     let next = put_decimal(out, from, next, rows as u64);
@@ -46,7 +44,7 @@ pub fn test_line(
     most: usize,
 ) -> usize
     requires { ⌜ at < 2 ^ 60 ⌝ }
-    ensures { λ r. ⌜ Wrote from at (testLine number count most) (now (out .entry)) (now (out .exit)) r × (r ≤ at + longestLine) ⌝ }
+    ensures { λ r. ⌜ WroteUpTo (at + longestLine) from at (testLine number count most) (now (out .entry)) (now (out .exit)) r ⌝ }
 {
     let next = put_word(out, from, at, b"test ");
     let next = put_decimal(out, from, next, number as u64);
@@ -66,8 +64,8 @@ pub fn row_line(
     shape: Shape,
     row: usize,
 ) -> usize
-    requires { ⌜ (at < 2 ^ 60) × (openedOf (now file) ≡ Register shape) × (row < shape .rows) ⌝ }
-    ensures { λ r. ⌜ Wrote from at (rowLine (now (file .entry)) row) (now (out .entry)) (now (out .exit)) r × (r ≤ at + longestLine) ⌝ }
+    requires { ⌜ RowAt (2 ^ 60) at (now file) shape row ⌝ }
+    ensures { λ r. ⌜ WroteUpTo (at + longestLine) from at (rowLine (now (file .entry)) row) (now (out .entry)) (now (out .exit)) r ⌝ }
 {
     let next = put_word(out, from, at, b"row ");
     let next = put_decimal(out, from, next, row as u64);
@@ -78,9 +76,9 @@ pub fn row_line(
 
 // A row's code in every column, a space before each.
 fn put_cells(out: &mut [u8], from: usize, at: usize, file: &[u8], shape: Shape, row: usize) -> usize
-    requires { ⌜ (at < 2 ^ 60 + 100) × (openedOf (now file) ≡ Register shape) × (row < shape .rows) ⌝ }
-    ensures { λ r. ⌜ Wrote from at (cells (now (file .entry)) row (shape .columns)) (now (out .entry)) (now (out .exit)) r
-        × (r ≤ at + mostColumns * longestCell) ⌝ }
+    requires { ⌜ RowAt (2 ^ 60 + 100) at (now file) shape row ⌝ }
+    ensures { λ r. ⌜ WroteUpTo (at + mostColumns * longestCell) from at (cells (now (file .entry)) row (shape .columns))
+        (now (out .entry)) (now (out .exit)) r ⌝ }
 {
     let columns = shape.columns;
     let mut next = at;
@@ -94,7 +92,7 @@ fn put_cells(out: &mut [u8], from: usize, at: usize, file: &[u8], shape: Shape, 
 
 fn put_cell(out: &mut [u8], from: usize, at: usize, code: u64) -> usize
     requires { ⌜ at < 2 ^ 60 + longestLine ⌝ }
-    ensures { λ r. ⌜ Wrote from at (space ∷ decimal code) (now (out .entry)) (now (out .exit)) r × (r ≤ at + longestCell) ⌝ }
+    ensures { λ r. ⌜ WroteUpTo (at + longestCell) from at (space ∷ decimal code) (now (out .entry)) (now (out .exit)) r ⌝ }
 {
     let next = put(out, from, at, b' ');
     put_decimal(out, from, next, code)

@@ -16,7 +16,7 @@ use Rattle.query.proofs.Slots.{length-filled}
 use Rattle.text.specs.declared.Asked.{Asked}
 use Rattle.text.specs.Reading.{Reads, read, too-many, no-segment, no-test}
 use Rattle.scan.proofs.Accepting.{Accepted, fits}
-use Rattle.sections.specs.Sections.{ColumnsBelow}
+use Rattle.sections.specs.Steps.{ColumnsBelow}
 
 pub reads-small : {text : List ℕ} {asked : Asked} → Reads text asked →
     (asked .query .count ≤ mostTests) × (length (asked .query .tests) ≡ mostTests)

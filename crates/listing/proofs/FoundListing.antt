@@ -33,7 +33,8 @@ use Rattle.finding.proofs.Outcomes.{accepted-scan, same-refusal, found-accepted
 
 pub piece-written : {from : ℕ} {list before after : List ℕ} {answer : ℕ} → Wrote from 0 list before after answer →
     PieceWritten list from before after answer
-piece-written {from} {list} {before} wrote = (wrote .written ∙ whole-piece before from list, wrote .behind ∙ zero-add (length list))
+piece-written {from} {list} {before} wrote =
+    record { piece = wrote .written ∙ whole-piece before from list; whole = wrote .behind ∙ zero-add (length list) }
 
 module _ (file bits : List ℕ) (found : Found) where
   -- the first line, the tests, the rows whose bit is set
@@ -103,7 +104,8 @@ module _ (file : List ℕ) (asked : Asked) (before bits : List ℕ) (found : Fou
       let small = reads-small reads in
       let passed = accepted-scan file asked (scan-passed (none-refused none)) in
       let columns = columns-below file (asked .size) (asked .query) (bytesFor mostRows) passed (small .0) (small .1) in
-      rw (found-is none) (opens file (asked .size) (asked .query) (bytesFor mostRows) passed, small .0, columns)
+      rw (found-is none)
+      (record { opened = opens file (asked .size) (asked .query) (bytesFor mostRows) passed; few = small .0; columns-there = columns })
 
 pub listed-in : (file text filled bits : List ℕ) (found : Found) → FoundIn file text filled bits found → (from : ℕ) (before : List ℕ)
     {after : List ℕ} {answer : ℕ} → PieceWritten (foundLines file bits found) from before after answer →

@@ -11,8 +11,8 @@ use Rattle.listing.specs.Inputs.{ListedRead, PrintLength}
 module _ (file text : List ℕ) where
   pub told-length : (unread : Bool) (from : ℕ) (before after : List ℕ) (answer : ℕ) →
       ListedRead unread file text from before after answer → PrintLength unread file text answer
-  told-length true from before after answer listed = listed .1
-  told-length false from before after answer listed = (listed .0, (listed .1 .0, listed .1 .1 .1))
+  told-length true from before after answer listed = listed .whole
+  told-length false from before after answer listed = (listed .0, (listed .1 .0, listed .1 .1 .whole))
 
   pub one-length : (unread : Bool) (bytes number : ℕ) → PrintLength unread file text bytes → PrintLength unread file text number →
       bytes ≡ number

@@ -30,7 +30,7 @@ use Rattle.listing.proofs.write_found.Reads.{Post as WritesFound}
 -- of one list
 one-piece : (list : List ℕ) (from : ℕ) (before : List ℕ) {after other : List ℕ} {answer number : ℕ} →
     PieceWritten list from before after answer → PieceWritten list from before other number → (after ≡ other) × (answer ≡ number)
-one-piece list from before first second = (first .0 ∙ sym (second .0), first .1 ∙ sym (second .1))
+one-piece list from before first second = (first .piece ∙ sym (second .piece), first .whole ∙ sym (second .whole))
 
 module _ (file text : List ℕ) (from : ℕ) (before after other : List ℕ) (answer number : ℕ) where
   pub one-listing : Listed file text from before after answer → Listed file text from before other number →

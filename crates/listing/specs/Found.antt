@@ -7,16 +7,20 @@ use Rattle.register.specs.declared.Opened.the-variants.{Register}
 use Rattle.register.specs.Opening.{openedOf}
 use Rattle.bits.specs.Marked.{markedBelow}
 use Rattle.lines.specs.Lines.{headLine}
-use Rattle.sections.specs.Sections.{testLines, rowLines, ColumnsBelow}
+use Rattle.sections.specs.Sections.{testLines, rowLines}
+use Rattle.sections.specs.Steps.{ColumnsBelow}
 use Rattle.finding.specs.declared.Found.{Found}
 use Rattle.listing.specs.Listing.{refusedOr}
 
--- what can be listed: a refusal, or what is of a file that opened, with tests of its columns
+-- what was found is of a file that opened, with few tests, each of a column of it
+pub record FoundThere (file : List ℕ) (found : Found) : Type 0 where
+  pub opened : openedOf file ≡ Register (found .shape)
+  pub few : found .query .count ≤ mostTests
+  pub columns-there : ColumnsBelow (found .shape .columns) (found .query .tests) (found .query .count)
+
+-- what can be listed: a refusal, or what is of such a file
 abbrev pub Listable : List ℕ → Found → Type 0
-Listable file found =
-    found .refusal .number ≡ 0 →
-    (openedOf file ≡ Register (found .shape)) × (found .query .count ≤ mostTests)
-    × ColumnsBelow (found .shape .columns) (found .query .tests) (found .query .count)
+Listable file found = found .refusal .number ≡ 0 → FoundThere file found
 
 -- what is listed of it: the line of the refusal, or the first line, the tests, the rows whose bit is set
 unfoldable pub foundLines : List ℕ → List ℕ → Found → List ℕ

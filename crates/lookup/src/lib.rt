@@ -4,13 +4,10 @@ use answers::refused;
 use register::Opened;
 use register::Shape;
 ghost use mathlib.Core.Path.{_≡_};
-ghost use Prim.Native.Nat.{_<_, _≤_};
 ghost use lib.ListN.{length};
 ghost use Rattle.basis.specs.Buffers.{laid};
 ghost use Rattle.answers.specs.Answers.{shownOf};
-ghost use Rattle.register.specs.declared.Opened.the-variants.{Register};
-ghost use Rattle.register.specs.Opening.{openedOf};
-ghost use Rattle.lookup.specs.Steps.{AllBelow, NoneAbove};
+ghost use Rattle.lookup.specs.Steps.{NoneAbove, NeitherAbove, CodesThere};
 ghost use Rattle.lookup.specs.LookingUp.{firstMissing, codesOf, lookedUpOf, shownFor, leftIn};
 
 // Writes the code that each listed row has in a column to the front of `out`. Refused, it changes
@@ -76,7 +73,7 @@ fn greatest_of(list: &[u32]) -> u32
 }
 
 fn greater(a: u32, b: u32) -> u32
-    ensures { λ r. ⌜ (a ≤ r) × (b ≤ r) ⌝ }
+    ensures { λ r. ⌜ NeitherAbove r a b ⌝ }
 {
     if a < b {
         return b;
@@ -86,8 +83,7 @@ fn greater(a: u32, b: u32) -> u32
 
 // Writes the code of each listed row to the front, one for each.
 fn write_codes(file: &[u8], shape: Shape, column: usize, list: &[u32], out: &mut [u64])
-    requires { ⌜ (openedOf (now file) ≡ Register shape) × (column < shape .columns) × (length (now list) ≤ length (now out)) ⌝ }
-    requires { ⌜ AllBelow (shape .rows) (now list) ⌝ }
+    requires { ⌜ CodesThere (now file) shape column (now list) (now out) ⌝ }
     ensures { λ _. ⌜ now (out .exit) ≡ laid (now (out .entry)) 0 (codesOf (now (file .entry)) column (now (list .entry))) ⌝ }
 {
     let width = register::width_at(file, shape, column);

@@ -1,5 +1,5 @@
 -- A piece of a long list of bytes in a lent buffer. Assumes nothing.
-use Prim.Native.Nat.{ℕ, suc, _+_, _-_}
+use Prim.Native.Nat.{ℕ, suc, _+_, _-_, _^_, _≤_, _<_}
 use mathlib.Core.Path.{_≡_}
 use mathlib.Core.List.{List, [], _∷_}
 use mathlib.Core.Bool.{_&&_, cond}
@@ -25,6 +25,22 @@ pub record Wrote (from at : ℕ) (word before after : List ℕ) (next : ℕ) : T
   pub written : after ≡ writeAt before from at word
   pub behind : next ≡ at + length word
 
+-- and that the place behind it is not past an end
+pub record WroteUpTo (end from at : ℕ) (word before after : List ℕ) (next : ℕ) : Type 0 where
+  pub wrote : Wrote from at word before after next
+  pub within : next ≤ end
+
+-- a place that leaves room for a digit to be counted, and a number that is one
+pub record DigitAt (at number : ℕ) : Type 0 where
+  pub early : at < 2 ^ 62
+  pub single : number < 10
+
+-- a place that leaves room for a word to be counted, and a word that is short
+pub record WordAt (at : ℕ) (word : List ℕ) : Type 0 where
+  pub early : at < 2 ^ 61
+  pub short : length word ≤ 16
+
 -- what a call that writes a piece of a list leaves and answers: the piece, and the length of the whole
-abbrev pub PieceWritten : List ℕ → ℕ → List ℕ → List ℕ → ℕ → Type 0
-PieceWritten list from before after answer = (after ≡ pieceOf before from list) × (answer ≡ length list)
+pub record PieceWritten (list : List ℕ) (from : ℕ) (before after : List ℕ) (answer : ℕ) : Type 0 where
+  pub piece : after ≡ pieceOf before from list
+  pub whole : answer ≡ length list

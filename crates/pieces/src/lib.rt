@@ -1,12 +1,11 @@
 // Bytes of a long listing, one after the other, of which a lent buffer takes a piece: those at places
 // from a first one on, as many as it has room for. A step is told the place of its first byte and
 // answers the place behind its last.
-ghost use Prim.Native.Nat.{_+_, _^_, _≤_, _<_};
+ghost use Prim.Native.Nat.{_+_, _^_, _<_};
 ghost use mathlib.Core.List.{[], _∷_};
-ghost use lib.ListN.{length};
 ghost use Rattle.limits.specs.Limits.{longestDecimal};
 ghost use Rattle.decimals.specs.Decimals.{digit, decimal};
-ghost use Rattle.pieces.specs.Pieces.{Wrote};
+ghost use Rattle.pieces.specs.Pieces.{Wrote, WroteUpTo, DigitAt, WordAt};
 
 // One byte.
 pub fn put(out: &mut [u8], from: usize, at: usize, byte: u8) -> usize
@@ -26,7 +25,7 @@ pub fn put(out: &mut [u8], from: usize, at: usize, byte: u8) -> usize
 
 // The bytes of a word.
 pub fn put_word(out: &mut [u8], from: usize, at: usize, word: &[u8]) -> usize
-    requires { ⌜ (at < 2 ^ 61) × (length (now word) ≤ 16) ⌝ }
+    requires { ⌜ WordAt at (now word) ⌝ }
     ensures { λ r. ⌜ Wrote from at (now (word .entry)) (now (out .entry)) (now (out .exit)) r ⌝ }
 {
     let mut next = at;
@@ -41,7 +40,7 @@ pub fn put_word(out: &mut [u8], from: usize, at: usize, word: &[u8]) -> usize
 // A number in decimal: that of its tenth, where it has one, and then its last digit.
 pub fn put_decimal(out: &mut [u8], from: usize, at: usize, number: u64) -> usize
     requires { ⌜ at < 2 ^ 61 ⌝ }
-    ensures { λ r. ⌜ Wrote from at (decimal number) (now (out .entry)) (now (out .exit)) r × (r ≤ at + longestDecimal) ⌝ }
+    ensures { λ r. ⌜ WroteUpTo (at + longestDecimal) from at (decimal number) (now (out .entry)) (now (out .exit)) r ⌝ }
 {
     if number < 10 {
         return put_digit(out, from, at, number);
@@ -51,7 +50,7 @@ pub fn put_decimal(out: &mut [u8], from: usize, at: usize, number: u64) -> usize
 }
 
 fn put_digit(out: &mut [u8], from: usize, at: usize, number: u64) -> usize
-    requires { ⌜ (at < 2 ^ 62) × (number < 10) ⌝ }
+    requires { ⌜ DigitAt at number ⌝ }
     ensures { λ r. ⌜ Wrote from at (digit number ∷ []) (now (out .entry)) (now (out .exit)) r ⌝ }
 {
     put(out, from, at, (48 + number) as u8)

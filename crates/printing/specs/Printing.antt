@@ -1,5 +1,5 @@
 -- What the program's steps answer, as far as it does not hang on the operating system. Assumes nothing.
-use Prim.Native.Nat.{ℕ, _-_, _≤_, min}
+use Prim.Native.Nat.{ℕ, _-_, _≤_, _<_, min}
 use mathlib.Core.Path.{_≡_}
 use mathlib.Core.List.{List}
 use mathlib.Core.Bool.{Bool, true}
@@ -10,6 +10,8 @@ use Rattle.files.specs.declared.Taken.the-variants.{Unreadable}
 use Rattle.files.specs.Taking.{numberOf, countOf, TakenInto}
 use Rattle.limits.specs.Limits.{mostFile}
 use Rattle.pieces.specs.Pieces.{PieceWritten}
+use Rattle.finding.specs.declared.Found.{Found}
+use Rattle.listing.specs.Found.{Listable, foundLines}
 use Rattle.listing.specs.Inputs.{unreadInput, PrintLength}
 use Rattle.printing.specs.declared.Piece.{Piece}
 use Rattle.printing.specs.declared.Printed.{Printed}
@@ -33,6 +35,22 @@ pub record PieceOf (listing : List ℕ) (from : ℕ) (before after : List ℕ) (
   pub made : PieceWritten listing from before after (piece .all)
   pub taken : piece .put ≤ piece .wanted
   pub wanted : piece .wanted ≡ min (length after) (piece .all - from)
+
+-- there is a buffer to print by, and what was taken of either input stands in what was lent for it
+pub record InputsTaken (out : List ℕ) (taken : Taken) (file : List ℕ) (given : Taken) (text : List ℕ) : Type 0 where
+  pub some-room : 0 < length out
+  pub file-within : countOf taken ≤ length file
+  pub text-within : countOf given ≤ length text
+
+-- there is a buffer to print by, and what was found can be listed
+pub record FoundPrintable (out file : List ℕ) (found : Found) : Type 0 where
+  pub some-room : 0 < length out
+  pub listable : Listable file found
+
+-- no more is printed than there is, which is as long as what was found lists
+pub record FoundPrinted (file bits : List ℕ) (found : Found) (printed : Printed) : Type 0 where
+  pub within : printed .written ≤ printed .all
+  pub whole : printed .all ≡ length (foundLines file bits found)
 
 -- no more is printed than there is, which is as long as what the inputs list
 pub record PrintedOf (unread : Bool) (file text : List ℕ) (printed : Printed) : Type 0 where

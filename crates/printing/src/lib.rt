@@ -13,6 +13,7 @@ ghost use Rattle.files.specs.Taking.{countOf};
 ghost use Rattle.listing.specs.Found.{Listable, foundLines};
 ghost use Rattle.listing.specs.Inputs.{unreadInputs};
 ghost use Rattle.printing.specs.Printing.{isRead, refusedFile, TextTaken, PieceOf, PrintedOf};
+ghost use Rattle.printing.specs.Printing.{InputsTaken, FoundPrintable, FoundPrinted};
 
 // How many bytes of the listing were written, of how many there are.
 pub struct Printed {
@@ -39,7 +40,7 @@ pub fn list_parts(file: &mut [u8], text: &mut [u8], out: &mut [u8]) -> Printed
 
 // Prints the listing of what was taken of the two inputs.
 fn print_taken(taken: Taken, file: &[u8], given: Taken, text: &[u8], out: &mut [u8]) -> Printed
-    requires { ⌜ (0 < length (now out)) × (countOf taken ≤ length (now file)) × (countOf given ≤ length (now text)) ⌝ }
+    requires { ⌜ InputsTaken (now out) taken (now file) given (now text) ⌝ }
     ensures { λ r. ⌜ PrintedOf (unreadInputs (isRead taken) (countOf taken) (isRead given) (countOf given))
         (take (countOf taken) (now (file .entry))) (take (countOf given) (now (text .entry))) r ⌝ }
 {
@@ -85,8 +86,8 @@ fn print_listing(taken: bool, file: &[u8], given: bool, text: &[u8], out: &mut [
 // Prints the listing of what was found in pieces as long as `out`, and stops at the first that is not taken whole. It ends
 // since each turn before that writes a byte at least, and no listing is longer than a number can say.
 fn print_found(file: &[u8], found: Found, bits: &[u8; MOST_BITS], out: &mut [u8]) -> Printed
-    requires { ⌜ (0 < length (now out)) × Listable (now file) found ⌝ }
-    ensures { λ r. ⌜ (r .written ≤ r .all) × (r .all ≡ length (foundLines (now (file .entry)) (now (bits .entry)) found)) ⌝ }
+    requires { ⌜ FoundPrintable (now out) (now file) found ⌝ }
+    ensures { λ r. ⌜ FoundPrinted (now (file .entry)) (now (bits .entry)) found r ⌝ }
 {
     let mut written: usize = 0;
     loop {

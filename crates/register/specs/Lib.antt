@@ -2,3 +2,4 @@
 pub mod Cells
 pub mod Answers
 pub mod Opening
+pub mod Columns

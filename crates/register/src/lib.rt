@@ -6,12 +6,10 @@ use limits::MOST_COLUMNS;
 use limits::MOST_ROWS;
 use limits::TRAILER_BYTES;
 ghost use mathlib.Core.Path.{_≡_};
-ghost use Prim.Native.Nat.{_<_};
-ghost use lib.ListN.{length};
-ghost use Rattle.limits.specs.Limits.{entryBytes};
-ghost use Rattle.directory.specs.File.{entryIn, widthIn, offsetIn};
+ghost use Rattle.directory.specs.File.{widthIn, offsetIn};
 ghost use Rattle.register.specs.Answers.{refusedWith, refusalOf, shownOf};
 ghost use Rattle.register.specs.Opening.{openedOf, shownFor};
+ghost use Rattle.register.specs.Columns.{ColumnThere, EntryRead};
 
 // The mark 42 53 4C 31 at a file's end, as a number of four bytes.
 pub const MARK: usize = 0x314C5342;
@@ -81,7 +79,7 @@ pub fn refusal_of(opened: Opened) -> Refusal
 
 // The width of a column of an opened file, from its directory.
 pub fn width_at(file: &[u8], shape: Shape, column: usize) -> u8
-    requires { ⌜ (openedOf (now file) ≡ Opened.Register shape) × (column < shape .columns) ⌝ }
+    requires { ⌜ ColumnThere (now file) shape column ⌝ }
     ensures { λ r. ⌜ r ≡ widthIn (now (file .entry)) column ⌝ }
 {
     let found = entry_of(file, shape, column);
@@ -90,7 +88,7 @@ pub fn width_at(file: &[u8], shape: Shape, column: usize) -> u8
 
 // Where slice 1 of a column of an opened file starts, from its directory.
 pub fn offset_at(file: &[u8], shape: Shape, column: usize) -> usize
-    requires { ⌜ (openedOf (now file) ≡ Opened.Register shape) × (column < shape .columns) ⌝ }
+    requires { ⌜ ColumnThere (now file) shape column ⌝ }
     ensures { λ r. ⌜ r ≡ offsetIn (now (file .entry)) column ⌝ }
 {
     let found = entry_of(file, shape, column);
@@ -99,8 +97,8 @@ pub fn offset_at(file: &[u8], shape: Shape, column: usize) -> usize
 
 // The directory's 8 bytes for a column of an opened file.
 fn entry_of(file: &[u8], shape: Shape, column: usize) -> &[u8]
-    requires { ⌜ (openedOf (now file) ≡ Opened.Register shape) × (column < shape .columns) ⌝ }
-    ensures { λ r. ⌜ (now r ≡ entryIn (now (file .entry)) column) × (length (now r) ≡ entryBytes) ⌝ }
+    requires { ⌜ ColumnThere (now file) shape column ⌝ }
+    ensures { λ r. ⌜ EntryRead (now (file .entry)) column (now r) ⌝ }
 {
     let columns = shape.columns;
     let from = file.len() - TRAILER_BYTES - ENTRY_BYTES * (columns - column);

@@ -1,5 +1,5 @@
 -- The lines of a listing that come in runs: those of tests and those of rows. Assumes nothing.
-use Prim.Native.Nat.{ℕ, _*_, _<_}
+use Prim.Native.Nat.{ℕ, _*_}
 use mathlib.Core.List.{List, map, flatten}
 use lib.ListN.{getD}
 use Rattle.basis.specs.Lists.{below}
@@ -20,7 +20,3 @@ testLines file tests counts count = flatten (map (testLineAt file tests counts) 
 -- a line for each row of a list
 unfoldable pub rowLines : List ℕ → List ℕ → List ℕ
 rowLines file rows = flatten (map (rowLine file) rows)
-
--- each of the first so many tests is of a column below a number
-abbrev pub ColumnsBelow : ℕ → List Test → ℕ → Type 0
-ColumnsBelow columns tests count = (t : ℕ) → t < count → testAt tests t .column < columns

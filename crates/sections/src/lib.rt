@@ -4,16 +4,15 @@ use lines::row_line;
 use lines::test_line;
 use query::Test;
 use register::Shape;
-ghost use mathlib.Core.Path.{_≡_};
 ghost use mathlib.Core.List.{[], _∷_};
-ghost use Prim.Native.Nat.{suc, _+_, _*_, _^_, _≤_, _<_};
+ghost use Prim.Native.Nat.{suc, _+_, _*_, _^_};
 ghost use Rattle.basis.specs.Lists.{those};
 ghost use Rattle.limits.specs.Limits.{mostTests, longestLine};
-ghost use Rattle.register.specs.declared.Opened.the-variants.{Register};
-ghost use Rattle.register.specs.Opening.{openedOf};
 ghost use Rattle.bits.specs.Marked.{marked, markedBelow};
-ghost use Rattle.pieces.specs.Pieces.{Wrote};
-ghost use Rattle.sections.specs.Sections.{testLines, rowLines, ColumnsBelow};
+ghost use Rattle.pieces.specs.Pieces.{Wrote, WroteUpTo};
+ghost use Rattle.lines.specs.Steps.{RowAt};
+ghost use Rattle.sections.specs.Sections.{testLines, rowLines};
+ghost use Rattle.sections.specs.Steps.{TestsAt, RowsAt};
 
 // A line for each test.
 pub fn test_lines(
@@ -26,10 +25,9 @@ pub fn test_lines(
     count: usize,
     counts: [usize; MOST_TESTS],
 ) -> usize
-    requires { ⌜ (at ≤ longestLine) × (openedOf (now file) ≡ Register shape) × (count ≤ mostTests)
-        × ColumnsBelow (shape .columns) tests count ⌝ }
-    ensures { λ r. ⌜ Wrote from at (testLines (now (file .entry)) tests counts count) (now (out .entry)) (now (out .exit)) r
-        × (r ≤ longestLine * suc mostTests) ⌝ }
+    requires { ⌜ TestsAt at (now file) shape tests count ⌝ }
+    ensures { λ r. ⌜ WroteUpTo (longestLine * suc mostTests) from at (testLines (now (file .entry)) tests counts count)
+        (now (out .entry)) (now (out .exit)) r ⌝ }
 {
     let rows = shape.rows;
     let mut next = at;
@@ -60,7 +58,7 @@ pub fn row_lines(
     shape: Shape,
     bits: &[u8],
 ) -> usize
-    requires { ⌜ (at ≤ longestLine * suc mostTests) × (openedOf (now file) ≡ Register shape) ⌝ }
+    requires { ⌜ RowsAt at (now file) shape ⌝ }
     ensures { λ r. ⌜ Wrote from at (rowLines (now (file .entry)) (markedBelow (shape .rows) (now (bits .entry))))
         (now (out .entry)) (now (out .exit)) r ⌝ }
 {
@@ -84,9 +82,9 @@ fn put_row(
     bits: &[u8],
     row: usize,
 ) -> usize
-    requires { ⌜ (at < 2 ^ 60) × (openedOf (now file) ≡ Register shape) × (row < shape .rows) ⌝ }
-    ensures { λ r. ⌜ Wrote from at (rowLines (now (file .entry)) (those (marked (now (bits .entry))) (row ∷ [])))
-        (now (out .entry)) (now (out .exit)) r × (r ≤ at + longestLine) ⌝ }
+    requires { ⌜ RowAt (2 ^ 60) at (now file) shape row ⌝ }
+    ensures { λ r. ⌜ WroteUpTo (at + longestLine) from at (rowLines (now (file .entry)) (those (marked (now (bits .entry))) (row ∷ [])))
+        (now (out .entry)) (now (out .exit)) r ⌝ }
 {
     if bits::is_marked(bits, row) {
         return row_line(out, from, at, file, shape, row);

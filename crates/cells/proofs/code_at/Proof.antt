@@ -2,8 +2,7 @@
 -- Assumes nothing.
 use mathlib.Core.Path.{sym, _∙_}
 use borrow.Author.Needs.{needs}
-use Rattle.register.proofs.Fit.{width-as-opened}
-use Rattle.cells.proofs.Rows.{row-within, code-gathered}
+use Rattle.cells.proofs.Rows.{code-within, code-gathered}
 use Rattle.cells.proofs.code_at.Statement.{statement}
 use Rattle.cells.proofs.code_at.Tie as tie
 
@@ -11,16 +10,14 @@ code-of-requires : tie.Need-code-of-requires
 code-of-requires c κs =
     let width = c .before in
     let asked = width .before .before .pre in
-    let known = width-as-opened _ _ (asked .0) _ (asked .1) in
-    rw (width .width-at .ensures, c .offset-at .ensures)
-    (known .0, known .1, row-within _ _ (asked .0) _ _ (asked .1) (asked .2))
+    rw (width .width-at .ensures, c .offset-at .ensures) (code-within asked)
 
 returns : tie.Need-returns
 returns c =
     let width = c .before .before in
     let asked = width .before .before .pre in
     c .code-of .ensures
-    ∙ rw (width .width-at .ensures, c .before .offset-at .ensures) (sym (code-gathered _ _ (asked .0) _ _))
+    ∙ rw (width .width-at .ensures, c .before .offset-at .ensures) (sym (code-gathered _ _ (asked .opened) _ _))
 
 pub code-at-spec : {M : Type 1} → statement M
 code-at-spec = tie.close (tie.spec (λ c κs. search needs) (λ c κs. search needs) code-of-requires returns)

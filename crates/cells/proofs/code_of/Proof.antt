@@ -21,14 +21,14 @@ start c = c .before .before
 -- the byte of a slice stands in the file
 inside : (c : tie.After-slices-of) (slice : ℕ) → slice < c .slices-of .result →
     let a = start c .args in place (a .offset) (a .rows) (a .row) slice < length (a .file .now)
-inside c slice h = start c .pre .2 slice (omega (arith, c .slices-of .ensures))
+inside c slice h = start c .pre .within slice (omega (arith, c .slices-of .ensures))
 
 -- a column has one to four slices
 some : (c : tie.After-slices-of) → 0 < c .slices-of .result
-some c = omega (arith, c .slices-of .ensures, some-slice _ (start c .pre .0))
+some c = omega (arith, c .slices-of .ensures, some-slice _ (start c .pre .some))
 
 few : (c : tie.After-slices-of) → c .slices-of .result ≤ mostSlices
-few c = omega (arith, c .slices-of .ensures, few-slices-of _ (start c .pre .1))
+few c = omega (arith, c .slices-of .ensures, few-slices-of _ (start c .pre .narrow))
 
 -- when the slices are so many, so are the bytes
 module _ (c : tie.After-slices-of) where
@@ -93,7 +93,7 @@ join-requires-4 : tie.Need-join-requires-4
 join-requires-4 c κs =
     let last = c .before .before in
     let counted = last .before .before .before .before .before .before in
-    (start counted .pre .1, sym (four last) ∙ counted .slices-of .ensures)
+    (start counted .pre .narrow, sym (four last) ∙ counted .slices-of .ensures)
 
 returns-4 : tie.Need-returns-4
 returns-4 c =

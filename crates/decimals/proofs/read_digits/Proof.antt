@@ -64,12 +64,12 @@ has-room c = leb-true _ _ (sym (c .before .has-room .ensures) ∙ not-false _ (c
 add-at : tie.Need-add-at Inv-loop μ-loop
 add-at c =
     let given = c .before in
-    omega (arith, byte-within (given .args .text .now) (given .args .from) _ (given .pre .0) (omega arith))
+    omega (arith, byte-within (given .args .text .now) (given .args .from) _ (given .pre .stands) (omega arith))
 
 loop-holds : tie.Need-loop-holds Inv-loop μ-loop
 loop-holds c =
     let given = c .before in
-    first-digit (omega arith) _ _ (given .pre .2) (given .pre .0) (given .pre .1) (omega arith)
+    first-digit (omega arith) _ _ (given .pre .single) (given .pre .stands) (given .pre .some) (omega arith)
 
 returns : tie.Need-returns Inv-loop μ-loop
 returns c =

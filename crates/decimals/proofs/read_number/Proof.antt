@@ -43,7 +43,7 @@ returns c =
 read-digits-requires : tie.Need-read-digits-requires
 read-digits-requires c κs =
     let here = digit-here (c .before) in
-    (here .0, omega arith, here .1, omega arith)
+    record { stands = here .0; some = omega arith; single = here .1; within = omega arith }
 
 returns-2 : tie.Need-returns-2
 returns-2 c =

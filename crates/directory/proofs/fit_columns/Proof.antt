@@ -66,9 +66,9 @@ unfit-as-said : (c : tie.After-unfit-entry Inv-loop μ-loop) →
     unfitColumn (fileOf (c .before .before)) (c .before .before .before .loop .column) ≡ c .unfit-entry .result
 unfit-as-said c =
     let turn = c .before .before in
-    let pre = turn .before .before .before .pre .0 in
+    let known = turn .before .before .before .pre in
     let counted = turn .before .loop .inv .counted in
-    sym (c .unfit-entry .ensures ∙ unfit-by-entry (fileOf turn) (entryOf turn) _ _ _ (here turn .0) (pre .0) counted)
+    sym (c .unfit-entry .ensures ∙ unfit-by-entry (fileOf turn) (entryOf turn) _ _ _ (here turn .0) (known .rows-read) counted)
 
 -- a column found fit is passed
 passed : (c : tie.After-slices-of Inv-loop μ-loop) →
@@ -89,7 +89,8 @@ loop-holds c = none-passed (c .before .args .file .now) (c .before .args .column
 mul-unfit-entry : tie.Need-mul-unfit-entry Inv-loop μ-loop
 mul-unfit-entry c =
     let turn = c .before .before .loop in
-    omega (arith, few-bytes _ (turn .slices) (turn .column) (c .before .before .before .before .pre .1 .0) (turn .inv .few) (omega arith))
+    let known = c .before .before .before .before .pre in
+    omega (arith, few-bytes _ (turn .slices) (turn .column) (known .few-rows) (turn .inv .few) (omega arith))
 
 unfit-entry-requires : tie.Need-unfit-entry-requires Inv-loop μ-loop
 unfit-entry-requires c κs = here (c .before) .1
@@ -98,7 +99,11 @@ returns : tie.Need-returns Inv-loop μ-loop
 returns c =
     let turn = c .before .before .before .before .loop in
     let unfit = unfit-as-said (c .before) ∙ c .if1 .taken in
-    (sym (first-is _ _ (turn .column) (omega arith) unfit (turn .inv .fit)), turn .inv .counted, turn .inv .few)
+    record {
+      first-unfit = sym (first-is _ _ (turn .column) (omega arith) unfit (turn .inv .fit));
+      counted = turn .inv .counted;
+      few = turn .inv .few;
+    }
 
 shared-slice-read-slices-of : tie.Need-shared-slice-read-slices-of Inv-loop μ-loop
 shared-slice-read-slices-of c = omega (arith, here (c .before .before .before .before) .1)
@@ -113,7 +118,11 @@ returns-2 : tie.Need-returns-2 Inv-loop μ-loop
 returns-2 c =
     let turn = c .before .loop in
     let end : turn .column ≡ c .before .before .before .args .columns = omega arith in
-    (end ∙ sym (first-is-none _ _ (λ k h. turn .inv .fit k (omega arith))), turn .inv .counted, turn .inv .few)
+    record {
+      first-unfit = end ∙ sym (first-is-none _ _ (λ k h. turn .inv .fit k (omega arith)));
+      counted = turn .inv .counted;
+      few = turn .inv .few;
+    }
 
 pub fit-columns-spec : {M : Type 1} → statement M
 fit-columns-spec =

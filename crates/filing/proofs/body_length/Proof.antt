@@ -10,13 +10,16 @@ use Rattle.filing.proofs.body_length.Tie as tie
 
 -- the bytes are few
 few : (c : tie.After-slices-in) → c .before .before .args .rows * c .slices-in .result ≤ mostRows * (mostSlices * mostColumns)
-few c = few-bytes _ (c .slices-in .result) mostColumns (c .before .before .pre .1) (omega (arith, c .slices-in .ensures .1)) (omega arith)
+few c =
+    few-bytes _ (c .slices-in .result) mostColumns (c .before .before .pre .few-rows) (omega (arith, c .slices-in .ensures .few))
+    (omega arith)
 
 mul-result : tie.Need-mul-result
 mul-result c = omega (arith, few c)
 
 returns : tie.Need-returns
-returns c = (ap (λ (slices : ℕ). c .before .before .args .rows * slices) (c .slices-in .ensures .0), few c)
+returns c =
+    record { counted = ap (λ (slices : ℕ). c .before .before .args .rows * slices) (c .slices-in .ensures .counted); few = few c }
 
 pub body-length-spec : {M : Type 1} → statement M
 body-length-spec = tie.close (tie.spec (λ c κs. search needs) mul-result returns)

@@ -7,14 +7,14 @@ use Rattle.filing.proofs.file_length.Tie as tie
 
 returns : tie.Need-returns
 unfolding fileLength
-returns c = omega (arith, c .body-length .ensures .0)
+returns c = omega (arith, c .body-length .ensures .counted)
 
 pub file-length-spec : {M : Type 1} → statement M
 file-length-spec =
     tie.close
     (tie.spec
     (λ c κs. search needs)
-    (λ c. omega (arith, c .before .before .pre .0 .few))
-    (λ c. omega (arith, c .before .before .pre .0 .few, c .body-length .ensures .1))
-    (λ c. omega (arith, c .before .before .pre .0 .few, c .body-length .ensures .1))
+    (λ c. omega (arith, c .before .before .pre .fit-widths .few))
+    (λ c. omega (arith, c .before .before .pre .fit-widths .few, c .body-length .ensures .few))
+    (λ c. omega (arith, c .before .before .pre .fit-widths .few, c .body-length .ensures .few))
     returns)

@@ -38,7 +38,10 @@ returns c =
     let turn = c .before .loop in
     let widths = c .before .before .before .args .widths .now in
     let end : turn .column ≡ length widths = omega (arith, turn .inv .within) in
-    (turn .inv .counted ∙ ap (slicesBefore (widthOf widths)) end, omega (arith, turn .inv .few, c .before .before .before .pre .few))
+    record {
+      counted = turn .inv .counted ∙ ap (slicesBefore (widthOf widths)) end;
+      few = omega (arith, turn .inv .few, c .before .before .before .pre .few);
+    }
 
 pub slices-in-spec : {M : Type 1} → statement M
 slices-in-spec =

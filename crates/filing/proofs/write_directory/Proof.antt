@@ -38,7 +38,7 @@ passed : (c : tie.After-slices-of Inv-loop μ-loop) →
     Counted (start turn .args .widths .now) (turn .before .loop .slices + c .slices-of .result) (turn .before .loop .column + 1)
 passed c =
     let turn = turnOf c in
-    one-more-counted _ (start turn .pre .0) _ _ _ (turn .before .loop .inv .0) (omega arith) (c .slices-of .ensures)
+    one-more-counted _ (start turn .pre .fit-widths) _ _ _ (turn .before .loop .inv .0) (omega arith) (c .slices-of .ensures)
 
 loop-holds : tie.Need-loop-holds Inv-loop μ-loop
 unfolding flatten
@@ -48,13 +48,13 @@ mul-write-entry : tie.Need-mul-write-entry Inv-loop μ-loop
 mul-write-entry c =
     let turn = c .before .before .loop in
     let pre = start (c .before) .pre in
-    omega (arith, few-bytes _ (turn .slices) (turn .column) (pre .1 .0) (turn .inv .0 .few) (omega (arith, pre .0 .few)))
+    omega (arith, few-bytes _ (turn .slices) (turn .column) (pre .few-rows) (turn .inv .0 .few) (omega (arith, pre .fit-widths .few)))
 
 write-entry-requires : tie.Need-write-entry-requires Inv-loop μ-loop
 write-entry-requires c κs = omega (arith, c .before .before .before .loop .inv .1 .same-length)
 
 add-slices : tie.Need-add-slices Inv-loop μ-loop
-add-slices c = omega (arith, passed c .few, start (turnOf c) .pre .0 .few)
+add-slices c = omega (arith, passed c .few, start (turnOf c) .pre .fit-widths .few)
 
 loop-again : tie.Need-loop-again Inv-loop μ-loop
 loop-again c =

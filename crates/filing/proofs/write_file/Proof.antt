@@ -43,15 +43,17 @@ start c = c .before .before .before .before
 room : (c : tie.After-body-length) →
     c .body-length .result + entryBytes * length (start c .args .widths .now) + trailerBytes ≤ length (start c .args .out .now)
 unfolding fileLength
-room c = omega (arith, c .body-length .ensures .0, start c .pre .1 .1)
+room c = omega (arith, c .body-length .ensures .counted, start c .pre .room)
 
 body-length-requires : tie.Need-body-length-requires
-body-length-requires c κs = let pre = c .before .before .before .pre in (pre .0, pre .1 .0 .few-rows)
+body-length-requires c κs =
+    let pre = c .before .before .before .pre in
+    record { fit-widths = pre .fit-widths; few-rows = pre .fit-codes .few-rows }
 
 write-body-requires : tie.Need-write-body-requires
 write-body-requires c κs =
     let pre = start (c .before) .pre in
-    (pre .0, (pre .1 .0, omega (arith, room (c .before), c .before .body-length .ensures .0)))
+    (pre .fit-widths, (pre .fit-codes, omega (arith, room (c .before), c .before .body-length .ensures .counted)))
 
 -- the bytes before the directory, and before the trailer, from where each is to be written
 abbrev countedFor : tie.After-write-directory-arg → tie.After-body-length
@@ -61,7 +63,7 @@ write-directory-requires : tie.Need-write-directory-requires
 write-directory-requires c κs =
     let counted = countedFor c in
     let pre = start counted .pre in
-    (pre .0, (pre .1 .0 .few-rows, omega (arith, room counted)))
+    record { fit-widths = pre .fit-widths; few-rows = pre .fit-codes .few-rows; room = omega (arith, room counted) }
 
 returns : tie.Need-returns
 returns c =
@@ -69,8 +71,8 @@ returns c =
     let second = third .before .before .before .before in
     let first = second .before .before .before .before in
     let counted = first .before .before in
-    parts-are-file _ _ _ _ (counted .body-length .result) (counted .body-length .ensures .0) (room counted) (first .write-body .ensures)
-    (second .write-directory .ensures) (third .write-trailer .ensures)
+    parts-are-file _ _ _ _ (counted .body-length .result) (counted .body-length .ensures .counted) (room counted)
+    (first .write-body .ensures) (second .write-directory .ensures) (third .write-trailer .ensures)
 
 pub write-file-spec : {M : Type 1} → statement M
 write-file-spec =

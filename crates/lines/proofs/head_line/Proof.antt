@@ -14,11 +14,14 @@ returns c =
     let step3 = step4 .before .before .before .before in
     let step2 = step3 .before .before .before .before .before in
     let step1 = step2 .before .before .before .before in
-    let matches = written-then (step3 .put-word2 .ensures) (written-then (step4 .put-decimal2 .ensures .0) (step5 .put .ensures)) in
-    let line = written-then (step1 .put-word .ensures) (written-then (step2 .put-decimal .ensures .0) matches) in
+    let matches = written-then (step3 .put-word2 .ensures) (written-then (step4 .put-decimal2 .ensures .wrote) (step5 .put .ensures)) in
     let first = step1 .put-word .ensures .behind in
     let second = step3 .put-word2 .ensures .behind in
-    (line, omega (arith, step2 .put-decimal .ensures .1, step4 .put-decimal2 .ensures .1, first, second, step5 .put .ensures .behind))
+    let end = step5 .put .ensures .behind in
+    record {
+      wrote = written-then (step1 .put-word .ensures) (written-then (step2 .put-decimal .ensures .wrote) matches);
+      within = omega (arith, step2 .put-decimal .ensures .within, step4 .put-decimal2 .ensures .within, first, second, end);
+    }
 
 pub head-line-spec : {M : Type 1} → statement M
 head-line-spec =

@@ -9,8 +9,10 @@ returns : tie.Need-returns
 returns c =
     let step2 = c .before .before in
     let step1 = step2 .before .before .before .before in
-    let line = written-then (step1 .put .ensures) (step2 .put-decimal .ensures .0) in
-    (line, omega (arith, step2 .put-decimal .ensures .1, step1 .put .ensures .behind))
+    record {
+      wrote = written-then (step1 .put .ensures) (step2 .put-decimal .ensures .wrote);
+      within = omega (arith, step2 .put-decimal .ensures .within, step1 .put .ensures .behind);
+    }
 
 pub put-cell-spec : {M : Type 1} → statement M
 put-cell-spec = tie.close (tie.spec (λ c κs. search needs) (λ c κs. search needs) (λ c. search needs) returns)

@@ -4,6 +4,7 @@ use native.Mathlib.Omega.{arith}
 use native.Mathlib.Numerals.{add-one}
 use mathlib.Core.Path.{_≡_}
 use mathlib.Core.List.{List, _∷_, _++_, flatten}
+use borrow.Author.Needs.{needs}
 use Rattle.basis.proofs.Lists.{joined-one-more}
 use Rattle.register.specs.Cells.{codeAt}
 use Rattle.decimals.specs.Decimals.{decimal, space}
@@ -31,25 +32,20 @@ loop-holds : tie.Need-loop-holds Inv-loop μ-loop
 unfolding cells flatten
 loop-holds c = (omega arith, (omega arith, wrote-nothing _ _ _))
 
-code-at-requires : tie.Need-code-at-requires Inv-loop μ-loop
-code-at-requires c κs =
-    let start = c .before .before .before .before .before in
-    (start .pre .1, omega arith, start .pre .2)
-
 put-cell-requires : tie.Need-put-cell-requires Inv-loop μ-loop
 put-cell-requires c κs =
     let start = c .before .before .before .before .before .before in
-    omega (arith, few-columns-as-opened _ (start .args .shape) (start .pre .1))
+    omega (arith, few-columns-as-opened _ (start .args .shape) (start .pre .opened))
 
 loop-again : tie.Need-loop-again Inv-loop μ-loop
 loop-again c =
     let cell = c .before .before in
     let turn = cell .before .before .before .before .loop in
     let a = cell .before .before .before .before .before .before .before .args in
-    let written = rw (cell .before .code-at .ensures) at (cell .put-cell .ensures .0) in (
+    let written = rw (cell .before .code-at .ensures) at (cell .put-cell .ensures .wrote) in (
       omega arith,
       (
-        omega (arith, cell .put-cell .ensures .1),
+        omega (arith, cell .put-cell .ensures .within),
         rw (cell-more (a .file .now) (a .row) (turn .column)) (written-then (turn .inv .1 .1) written),
       ),
     )
@@ -62,7 +58,10 @@ returns c =
     let turn = c .before .loop in
     let start = c .before .before .before .before in
     let all : turn .column ≡ start .args .shape .columns = omega arith in
-    (rw all at (turn .inv .1 .1), omega (arith, few-columns-as-opened _ (start .args .shape) (start .pre .1)))
+    record {
+      wrote = rw all at (turn .inv .1 .1);
+      within = omega (arith, few-columns-as-opened _ (start .args .shape) (start .pre .opened));
+    }
 
 pub put-cells-spec : {M : Type 1} → statement M
 put-cells-spec =
@@ -71,7 +70,7 @@ put-cells-spec =
     Inv-loop
     μ-loop
     loop-holds
-    code-at-requires
+    (λ c κs. search needs)
     put-cell-requires
     (λ c. omega arith)
     (λ c. omega arith)

@@ -13,8 +13,8 @@ returns c =
     let step3 = step4 .before .before .before .before in
     let step2 = step3 .before .before .before .before in
     let step1 = step2 .before .before .before .before in
-    let place = written-then (step3 .put .ensures) (written-then (step4 .put-decimal2 .ensures .0) (step5 .put2 .ensures)) in
-    written-then (step1 .put-word .ensures) (written-then (step2 .put-decimal .ensures .0) place)
+    let place = written-then (step3 .put .ensures) (written-then (step4 .put-decimal2 .ensures .wrote) (step5 .put2 .ensures)) in
+    written-then (step1 .put-word .ensures) (written-then (step2 .put-decimal .ensures .wrote) place)
 
 pub refused-line-spec : {M : Type 1} → statement M
 refused-line-spec =

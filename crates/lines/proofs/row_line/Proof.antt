@@ -16,14 +16,16 @@ returns c =
     let step2 = step3 .before .before .before .before in
     let step1 = step2 .before .before .before .before in
     let start = step1 .before .before .before .before .before in
-    let columns = columns-as-opened _ (start .args .shape) (start .pre .1) in
-    let codes = written-then (rw columns at (step4 .put-cells .ensures .0)) (step5 .put2 .ensures) in
-    let number = written-then (step2 .put-decimal .ensures .0) (written-then (step3 .put .ensures) codes) in
+    let columns = columns-as-opened _ (start .args .shape) (start .pre .opened) in
+    let codes = written-then (rw columns at (step4 .put-cells .ensures .wrote)) (step5 .put2 .ensures) in
+    let number = written-then (step2 .put-decimal .ensures .wrote) (written-then (step3 .put .ensures) codes) in
     let word = step1 .put-word .ensures .behind in
-    let mark = step3 .put .ensures .behind in (
-      written-then (step1 .put-word .ensures) number,
-      omega (arith, step2 .put-decimal .ensures .1, step4 .put-cells .ensures .1, word, mark, step5 .put2 .ensures .behind),
-    )
+    let mark = step3 .put .ensures .behind in
+    let end = step5 .put2 .ensures .behind in
+    record {
+      wrote = written-then (step1 .put-word .ensures) number;
+      within = omega (arith, step2 .put-decimal .ensures .within, step4 .put-cells .ensures .within, word, mark, end);
+    }
 
 pub row-line-spec : {M : Type 1} → statement M
 row-line-spec =

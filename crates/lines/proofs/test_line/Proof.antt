@@ -16,15 +16,18 @@ returns c =
     let step3 = step4 .before .before .before .before in
     let step2 = step3 .before .before .before .before .before in
     let step1 = step2 .before .before .before .before in
-    let most = written-then (step5 .put-word3 .ensures) (written-then (step6 .put-decimal3 .ensures .0) (step7 .put .ensures)) in
-    let count = written-then (step3 .put-word2 .ensures) (written-then (step4 .put-decimal2 .ensures .0) most) in
-    let line = written-then (step1 .put-word .ensures) (written-then (step2 .put-decimal .ensures .0) count) in
+    let most = written-then (step5 .put-word3 .ensures) (written-then (step6 .put-decimal3 .ensures .wrote) (step7 .put .ensures)) in
+    let count = written-then (step3 .put-word2 .ensures) (written-then (step4 .put-decimal2 .ensures .wrote) most) in
     let first = step1 .put-word .ensures .behind in
     let second = step3 .put-word2 .ensures .behind in
     let third = step5 .put-word3 .ensures .behind in
-    let one = step2 .put-decimal .ensures .1 in
-    let two = step4 .put-decimal2 .ensures .1 in
-    (line, omega (arith, one, two, step6 .put-decimal3 .ensures .1, first, second, third, step7 .put .ensures .behind))
+    let one = step2 .put-decimal .ensures .within in
+    let two = step4 .put-decimal2 .ensures .within in
+    let three = step6 .put-decimal3 .ensures .within in
+    record {
+      wrote = written-then (step1 .put-word .ensures) (written-then (step2 .put-decimal .ensures .wrote) count);
+      within = omega (arith, one, two, three, first, second, third, step7 .put .ensures .behind);
+    }
 
 pub test-line-spec : {M : Type 1} → statement M
 test-line-spec =

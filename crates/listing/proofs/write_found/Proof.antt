@@ -21,16 +21,15 @@ returns c =
 
 test-lines-requires : tie.Need-test-lines-requires
 test-lines-requires c κs =
-    let head = c .before .before .before in
-    let accepted = acceptedAt head in
+    let accepted = acceptedAt (c .before .before .before) in
     let can = startOf accepted .pre (accepted .if1 .left) in
-    (head .head-line .ensures .1, can .0, can .1, can .2)
+    search needs
 
 row-lines-requires : tie.Need-row-lines-requires
 row-lines-requires c κs =
-    let tests = c .before .before .before .before in
-    let accepted = acceptedAt (tests .before .before .before .before) in
-    (tests .test-lines .ensures .1, startOf accepted .pre (accepted .if1 .left) .0)
+    let accepted = acceptedAt (c .before .before .before .before .before .before .before .before) in
+    let can = startOf accepted .pre (accepted .if1 .left) in
+    search needs
 
 returns-2 : tie.Need-returns-2
 returns-2 c =
@@ -40,7 +39,8 @@ returns-2 c =
     let accepted = acceptedAt head in
     let a = startOf accepted .args in
     rw (rows-listed (a .file .now) (a .bits .now) (a .found) (accepted .if1 .left))
-    (piece-written (written-then (head .head-line .ensures .0) (written-then (tests .test-lines .ensures .0) (rows .row-lines .ensures))))
+    (piece-written
+    (written-then (head .head-line .ensures .wrote) (written-then (tests .test-lines .ensures .wrote) (rows .row-lines .ensures))))
 
 pub write-found-spec : {M : Type 1} → statement M
 write-found-spec =

@@ -21,7 +21,7 @@ loop-again : tie.Need-loop-again Inv-loop μ-loop
 loop-again c =
     let turn = c .before .before .before .loop in
     let list = c .before .before .before .before .before .args .list .now in
-    (omega arith, below-more _ _ (λ k h. omega (arith, turn .inv .1 k h, c .greater .ensures .0)) (c .greater .ensures .1))
+    (omega arith, below-more _ _ (λ k h. omega (arith, turn .inv .1 k h, c .greater .ensures .first)) (c .greater .ensures .second))
 
 returns : tie.Need-returns Inv-loop μ-loop
 returns c = λ i inside. c .before .loop .inv .1 i (omega arith)

@@ -95,7 +95,12 @@ returns-4 c = refused-by _ _ _ _ (stops (past-15 (c .before .before)) (lt-ltb _ 
 write-codes-requires : tie.Need-write-codes-requires
 write-codes-requires c κs =
     let found = c .before .before in
-    ((opened (known found), there found, c .before .if3 .left), all-below found)
+    record {
+      opened = opened (known found);
+      column-there = there found;
+      rows-there = all-below found;
+      room = c .before .if3 .left;
+    }
 
 returns-5 : tie.Need-returns-5
 returns-5 c =

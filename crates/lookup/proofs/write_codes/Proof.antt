@@ -11,8 +11,7 @@ use Rattle.basis.specs.Buffers.{laid}
 use Rattle.basis.proofs.Buffers.{laid-each}
 use Rattle.register.specs.Cells.{codeAt}
 use Rattle.lookup.specs.LookingUp.{codesOf}
-use Rattle.register.proofs.Fit.{width-as-opened}
-use Rattle.cells.proofs.Rows.{row-within, code-gathered}
+use Rattle.cells.proofs.Rows.{code-within, code-gathered}
 use Rattle.lookup.proofs.write_codes.Statement.{statement}
 use Rattle.lookup.proofs.write_codes.Tie as tie
 
@@ -22,12 +21,6 @@ Inv-loop file column list out₀ width offset rows i₀ out i =
 
 abbrev μ-loop : tie.MeasureT-loop
 μ-loop file column list out₀ width offset rows i₀ out i = length list - i
-
-width-at-requires : tie.Need-width-at-requires Inv-loop μ-loop
-width-at-requires c κs = (c .before .before .before .pre .0 .0, c .before .before .before .pre .0 .1)
-
-offset-at-requires : tie.Need-offset-at-requires Inv-loop μ-loop
-offset-at-requires c κs = (c .before .before .before .before .pre .0 .0, c .before .before .before .before .pre .0 .1)
 
 -- what is stored is the code of the row at hand
 code-here : (c : tie.After-code-of Inv-loop μ-loop) →
@@ -39,7 +32,7 @@ code-here c =
     let start = width .before .before .before .before in
     c .code-of .ensures
     ∙ rw (width .width-at .ensures, c .before .before .before .before .before .offset-at .ensures, c .before .wide .ensures)
-    (sym (code-gathered _ _ (start .pre .0 .0) _ _))
+    (sym (code-gathered _ _ (start .pre .opened) _ _))
 
 loop-holds : tie.Need-loop-holds Inv-loop μ-loop
 loop-holds c = (omega arith, refl, refl)
@@ -48,11 +41,14 @@ code-of-requires : tie.Need-code-of-requires Inv-loop μ-loop
 code-of-requires c κs =
     let width = c .before .before .before .before .before in
     let start = width .before .before .before .before in
-    let opened = start .pre .0 .0 in
-    let there = start .pre .0 .1 in
-    let known = width-as-opened _ _ opened _ there in
+    let known = start .pre in
     rw (width .width-at .ensures, c .before .before .before .before .offset-at .ensures, c .wide .ensures)
-    (known .0, known .1, row-within _ _ opened _ _ there (start .pre .1 _ (c .before .before .loop-test .taken)))
+    (code-within
+    (record {
+      opened = known .opened;
+      column-there = known .column-there;
+      row-there = known .rows-there _ (c .before .before .loop-test .taken);
+    }))
 
 loop-again : tie.Need-loop-again Inv-loop μ-loop
 loop-again c =
@@ -81,8 +77,8 @@ write-codes-spec =
     (tie.spec
     Inv-loop
     μ-loop
-    width-at-requires
-    offset-at-requires
+    (λ c κs. search needs)
+    (λ c κs. search needs)
     loop-holds
     (λ c. omega arith)
     (λ c. omega arith)

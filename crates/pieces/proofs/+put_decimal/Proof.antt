@@ -33,7 +33,7 @@ put-decimal-put-digit-requires : (t : ℕ) → put-decimal-lts.Need-put-digit-re
   put-decimal-below t,
   put-decimal.Post,
 ) (put-decimal-at t) put-decimal.Post
-put-decimal-put-digit-requires t c κs = (omega arith, omega arith)
+put-decimal-put-digit-requires t c κs = record { early = omega arith; single = omega arith }
 
 put-decimal-same-length : (t : ℕ) → put-decimal-lts.Need-same-length (
   put-digit-reads.Asked,
@@ -52,7 +52,7 @@ put-decimal-returns : (t : ℕ) → put-decimal-lts.Need-returns (
 put-decimal-returns t c =
     let digit = c .before .before .put-digit .ensures in
     let small = c .before .before .before .before .if1 .taken in
-    (rw (digit-decimal _ small) digit, omega (arith, digit .behind))
+    record { wrote = rw (digit-decimal _ small) digit; within = omega (arith, digit .behind) }
 
 put-decimal-put-decimal-requires : (t : ℕ) → put-decimal-lts.Need-put-decimal-requires (
   put-digit-reads.Asked,
@@ -68,7 +68,8 @@ put-decimal-put-digit-requires-2 : (t : ℕ) → put-decimal-lts.Need-put-digit-
   put-decimal-below t,
   put-decimal.Post,
 ) (put-decimal-at t) put-decimal.Post
-put-decimal-put-digit-requires-2 t c κs = (omega (arith, c .before .before .before .put-decimal .ensures .1), omega arith)
+put-decimal-put-digit-requires-2 t c κs =
+    record { early = omega (arith, c .before .before .before .put-decimal .ensures .within); single = omega arith }
 
 put-decimal-same-length-2 : (t : ℕ) → put-decimal-lts.Need-same-length-2 (
   put-digit-reads.Asked,
@@ -88,9 +89,9 @@ put-decimal-returns-2 t c =
     let front = c .before .before .before .before .before .before .put-decimal .ensures in
     let start = c .before .before .before .before .before .before .before .before .before .before in
     let number = start .args .number in
-    let whole = written-then (front .0) (c .before .before .put-digit2 .ensures) in
+    let whole = written-then (front .wrote) (c .before .before .put-digit2 .ensures) in
     let digits = longer-decimal number (omega arith) (omega arith) in
-    (rw digits whole, omega (arith, whole .behind, ap length digits, short-decimal number))
+    record { wrote = rw digits whole; within = omega (arith, whole .behind, ap length digits, short-decimal number) }
 
 pub +put-decimal-spec : {M : Type 1} → statement M
 +put-decimal-spec = close μ-put-decimal λ t. put-decimal-lts.spec (

@@ -33,12 +33,12 @@ add-written c = omega (arith, ends (c .before .before .before))
 returns : tie.Need-returns Inv-loop μ-loop
 returns c =
     let put = c .before .before .before .before .before in
-    (ends put, put .print-piece .ensures .made .1)
+    record { within = ends put; whole = put .print-piece .ensures .made .whole }
 
 returns-2 : tie.Need-returns-2 Inv-loop μ-loop
 returns-2 c =
     let put = c .before .before .before .before .before .before .before in
-    (ends put, put .print-piece .ensures .made .1)
+    record { within = ends put; whole = put .print-piece .ensures .made .whole }
 
 loop-less : tie.Need-loop-less Inv-loop μ-loop
 loop-less c =

@@ -7,14 +7,14 @@ use Rattle.printing.proofs.print_listing.Tie as tie
 print-found-requires : tie.Need-print-found-requires
 print-found-requires c κs =
     let found = c .before .before in
-    (search needs, inputs-can-be-listed _ _ _ _ _ _ (found .prepare .ensures))
+    record { some-room = search needs; listable = inputs-can-be-listed _ _ _ _ _ _ (found .prepare .ensures) }
 
 returns : tie.Need-returns
 returns c =
     let printed = c .before .before in
     record {
-      within = printed .print-found .ensures .0;
-      whole = length-of-inputs _ _ _ _ _ _ (printed .before .before .before .prepare .ensures) (printed .print-found .ensures .1);
+      within = printed .print-found .ensures .within;
+      whole = length-of-inputs _ _ _ _ _ _ (printed .before .before .before .prepare .ensures) (printed .print-found .ensures .whole);
     }
 
 pub print-listing-spec : {M : Type 1} → statement M

@@ -20,7 +20,7 @@ returns c =
     let taken = given .before .before in
     let start = taken .before .before .before .before .before .before in
     let a = start .args in
-    printed-of-taken (a .taken) (a .given) (a .file .now) (a .text .now) (start .pre .1) (start .pre .2)
+    printed-of-taken (a .taken) (a .given) (a .file .now) (a .text .now) (start .pre .file-within) (start .pre .text-within)
     (taken .is-read .ensures) (given .is-read2 .ensures) (taken .before .before .bytes-of .ensures) (taken .before .bytes-of2 .ensures)
     (printed .print-listing .ensures)
 

@@ -23,22 +23,24 @@ room file shape opened =
     rw (columns-as-opened file shape opened) (fit .few-columns, fit .placed)
 
 sub-from : tie.Need-sub-from
-sub-from c = let known = room _ _ (c .pre .0) in omega arith
+sub-from c = let known = room _ _ (c .pre .opened) in omega arith
 
 mul-from : tie.Need-mul-from
-mul-from c = let known = room _ _ (c .pre .0) in omega arith
+mul-from c = let known = room _ _ (c .pre .opened) in omega arith
 
 sub-from-3 : tie.Need-sub-from-3
-sub-from-3 c = let known = room _ _ (c .pre .0) in omega arith
+sub-from-3 c = let known = room _ _ (c .pre .opened) in omega arith
 
 part-result-end : tie.Need-part-result-end
-part-result-end c = let known = room _ _ (c .pre .0) in omega arith
+part-result-end c = let known = room _ _ (c .pre .opened) in omega arith
 
 returns : tie.Need-returns
 returns c =
-    let known = room _ _ (c .before .pre .0) in
+    let known = room _ _ (c .before .pre .opened) in
     let a = c .before .args in
-    entry-cut (a .file .now) (length (a .file .now) - 16 - 8 * (a .shape .columns - a .column)) (a .column) (omega arith) (omega arith)
+    let from = length (a .file .now) - trailerBytes - entryBytes * (a .shape .columns - a .column) in
+    let cut = entry-cut (a .file .now) from (a .column) (omega arith) (omega arith) in
+    record { bytes = cut .0; whole = cut .1 }
 
 pub entry-of-spec : {M : Type 1} → statement M
 entry-of-spec =

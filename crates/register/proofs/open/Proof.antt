@@ -81,10 +81,14 @@ fit-columns-requires : tie.Need-fit-columns-requires
 fit-columns-requires c κs =
     let read = read-7 c in
     let fit = c .before .before .before in
-    let rows = fit .before .before .before .before in (
-      (known read .rows, known read .directory),
-      (omega (arith, rows .if4 .left), omega (arith, fit .if6 .left), omega (arith, c .if7 .left)),
-    )
+    let rows = fit .before .before .before .before in
+    record {
+      rows-read = known read .rows;
+      directory-read = known read .directory;
+      few-rows = omega (arith, rows .if4 .left);
+      few-columns = omega (arith, fit .if6 .left);
+      within = omega (arith, c .if7 .left);
+    }
 
 returns-8 : tie.Need-returns-8
 unfolding openLines
@@ -106,7 +110,7 @@ mul-if9 c =
     omega (
       arith,
       few-bytes (trailerAt read .rows) (far .fit-columns .result .slices) (far .fit-columns .result .place)
-          (rows .if4 .left) (far .fit-columns .ensures .2) (omega (arith, first-unfit far, known read .columns, fit .if6 .left)),
+          (rows .if4 .left) (far .fit-columns .ensures .few) (omega (arith, first-unfit far, known read .columns, fit .if6 .left)),
     )
 
 returns-9 : tie.Need-returns-9

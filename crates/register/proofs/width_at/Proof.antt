@@ -7,7 +7,7 @@ use Rattle.register.proofs.width_at.Tie as tie
 
 returns : tie.Need-returns
 unfolding widthIn
-returns c = ap entryWidth (c .before .entry-of .ensures .0)
+returns c = ap entryWidth (c .before .entry-of .ensures .bytes)
 
 pub width-at-spec : {M : Type 1} → statement M
 width-at-spec = tie.close (tie.spec (λ c κs. search needs) (λ c. search needs) returns)

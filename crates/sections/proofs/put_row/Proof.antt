@@ -13,13 +13,16 @@ returns c =
     let judged = line .before .before .before in
     let a = judged .before .before .before .before .args in
     let is = sym (judged .is-marked .ensures) ∙ line .before .before .if1 .taken in
-    (rw (marked-line (a .file .now) (a .bits .now) (a .row) is) (line .row-line .ensures .0), line .row-line .ensures .1)
+    record {
+      wrote = rw (marked-line (a .file .now) (a .bits .now) (a .row) is) (line .row-line .ensures .wrote);
+      within = line .row-line .ensures .within;
+    }
 
 returns-2 : tie.Need-returns-2
 returns-2 c =
     let a = c .before .before .before .before .before .args in
     let is = sym (c .before .is-marked .ensures) ∙ c .if1 .left in
-    (rw (unmarked-line (a .file .now) (a .bits .now) (a .row) is) (wrote-nothing _ _ _), omega arith)
+    record { wrote = rw (unmarked-line (a .file .now) (a .bits .now) (a .row) is) (wrote-nothing _ _ _); within = omega arith }
 
 pub put-row-spec : {M : Type 1} → statement M
 put-row-spec =

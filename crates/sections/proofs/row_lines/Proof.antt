@@ -27,7 +27,11 @@ loop-holds c = (omega arith, (omega arith, wrote-nothing _ _ _))
 put-row-requires : tie.Need-put-row-requires Inv-loop μ-loop
 put-row-requires c κs =
     let start = c .before .before .before .before .before .before in
-    (omega (arith, few-rows-as-opened _ (start .args .shape) (start .pre .1)), start .pre .1, omega arith)
+    record {
+      early = omega (arith, few-rows-as-opened _ (start .args .shape) (start .pre .opened));
+      opened = start .pre .opened;
+      there = omega arith;
+    }
 
 loop-again : tie.Need-loop-again Inv-loop μ-loop
 loop-again c =
@@ -36,8 +40,8 @@ loop-again c =
     let a = c .before .before .before .before .before .before .before .before .before .args in (
       omega arith,
       (
-        omega (arith, put .1),
-        rw (row-more (a .file .now) (a .bits .now) (turn .row)) (written-then (turn .inv .1 .1) (put .0)),
+        omega (arith, put .within),
+        rw (row-more (a .file .now) (a .bits .now) (turn .row)) (written-then (turn .inv .1 .1) (put .wrote)),
       ),
     )
 

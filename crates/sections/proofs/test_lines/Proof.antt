@@ -28,13 +28,14 @@ loop-holds c = (omega arith, (omega arith, wrote-nothing _ _ _))
 width-at-requires : tie.Need-width-at-requires Inv-loop μ-loop
 width-at-requires c κs =
     let start = c .before .before .before .before .before in
-    (start .pre .1, start .pre .3 _ (c .before .loop-test .taken))
+    record { opened = start .pre .opened; there = start .pre .columns-there _ (c .before .loop-test .taken) }
 
 mul-test-line-2 : tie.Need-mul-test-line-2 Inv-loop μ-loop
 mul-test-line-2 c =
     let start = c .before .before .before .before .before .before .before .before in
     let width = c .before .before in
-    let bytes = few-bytes-as-opened _ (start .args .shape) (start .pre .1) _ (start .pre .3 _ (width .before .before .loop-test .taken)) in
+    let there = start .pre .columns-there _ (width .before .before .loop-test .taken) in
+    let bytes = few-bytes-as-opened _ (start .args .shape) (start .pre .opened) _ there in
     let slices = c .slices-of .ensures ∙ ap slicesOf (width .width-at .ensures) in
     let product : start .args .shape .rows * c .slices-of .result ≤ mostRows * mostSlices = rw slices bytes in
     omega (arith, product)
@@ -47,11 +48,11 @@ loop-again c =
     let turn = width .before .before .before .loop in
     let start = width .before .before .before .before .before .before in
     let slices = sliced .slices-of .ensures ∙ ap slicesOf (width .width-at .ensures) in
-    let most = ap₂ (λ (a b : ℕ). a * b) (rows-as-opened _ (start .args .shape) (start .pre .1)) slices in (
+    let most = ap₂ (λ (a b : ℕ). a * b) (rows-as-opened _ (start .args .shape) (start .pre .opened)) slices in (
       omega arith,
       (
-        omega (arith, line .test-line .ensures .1),
-        rw (test-more _ _ _ (turn .t)) (written-then (turn .inv .1 .1) (rw most at (line .test-line .ensures .0))),
+        omega (arith, line .test-line .ensures .within),
+        rw (test-more _ _ _ (turn .t)) (written-then (turn .inv .1 .1) (rw most at (line .test-line .ensures .wrote))),
       ),
     )
 
@@ -62,7 +63,7 @@ returns : tie.Need-returns Inv-loop μ-loop
 returns c =
     let turn = c .before .loop in
     let all : turn .t ≡ c .before .before .before .before .args .count = omega arith in
-    (rw all at (turn .inv .1 .1), omega arith)
+    record { wrote = rw all at (turn .inv .1 .1); within = omega arith }
 
 pub test-lines-spec : {M : Type 1} → statement M
 test-lines-spec =

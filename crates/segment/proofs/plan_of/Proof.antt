@@ -38,12 +38,12 @@ array-copy-out-test c = omega (arith, c .before .before .before .pre .few)
 width-at-requires : tie.Need-width-at-requires Inv-loop μ-loop
 width-at-requires c κs =
     let start = c .before .before .before .before in
-    (start .pre .opened, start .pre .columns _ (c .before .loop-test .taken))
+    record { opened = start .pre .opened; there = start .pre .columns _ (c .before .loop-test .taken) }
 
 offset-at-requires : tie.Need-offset-at-requires Inv-loop μ-loop
 offset-at-requires c κs =
     let start = c .before .before .before .before .before .before in
-    (start .pre .opened, start .pre .columns _ (c .before .before .before .loop-test .taken))
+    record { opened = start .pre .opened; there = start .pre .columns _ (c .before .before .before .loop-test .taken) }
 
 plan-bytes-requires : tie.Need-plan-bytes-requires Inv-loop μ-loop
 plan-bytes-requires c κs =

@@ -125,7 +125,7 @@ returns-6 c =
     refused-by _ _ _ _ (stops (past-9 (found .before)) large) (rw first at (c .refused6 .ensures))
 
 file-length-requires : tie.Need-file-length-requires
-file-length-requires c κs = (fit-widths (c .before .before .before), fit-codes c .few-rows)
+file-length-requires c κs = record { fit-widths = fit-widths (c .before .before .before); few-rows = fit-codes c .few-rows }
 
 returns-7 : tie.Need-returns-7
 unfolding writeLines
@@ -139,7 +139,11 @@ write-file-requires : tie.Need-write-file-requires
 write-file-requires c κs =
     let counted = c .before .before in
     let fit = counted .before in
-    (fit-widths (fit .before .before .before), (fit-codes fit, omega (arith, counted .file-length .ensures, c .before .if7 .left)))
+    record {
+      fit-widths = fit-widths (fit .before .before .before);
+      fit-codes = fit-codes fit;
+      room = omega (arith, counted .file-length .ensures, c .before .if7 .left);
+    }
 
 returns-8 : tie.Need-returns-8
 returns-8 c =

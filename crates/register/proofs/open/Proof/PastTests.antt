@@ -90,7 +90,7 @@ past-5 c =
 pub first-unfit : (c : tie.After-fit-columns) → c .fit-columns .result .place ≡ firstUnfitColumn (fileAt (read-7 (c .before)))
 first-unfit c =
     let read = read-7 (c .before) in
-    c .fit-columns .ensures .0 ∙ ap (firstPlace (unfitColumn (fileAt read))) (known read .columns)
+    c .fit-columns .ensures .first-unfit ∙ ap (firstPlace (unfitColumn (fileAt read))) (known read .columns)
 
 pub past-6 : (c : tie.Else8) → Passed (fileAt (read-8 c)) 6
 past-6 c =
@@ -107,4 +107,4 @@ body c =
     let most = first-at-most (unfitColumn (fileAt read)) (columnsIn (fileAt read)) in
     let all : far .fit-columns .result .place ≡ columnsIn (fileAt read) =
     omega (arith, known read .columns, c .if8 .left, first-unfit far, most) in
-    ap₂ _*_ (known read .rows) (far .fit-columns .ensures .1 ∙ ap (slicesBefore (widthIn (fileAt read))) all)
+    ap₂ _*_ (known read .rows) (far .fit-columns .ensures .counted ∙ ap (slicesBefore (widthIn (fileAt read))) all)
