@@ -50,11 +50,6 @@ pub record EntryByTable (positions : List ℕ) (k : ℕ) : Type 0 where
   pub table : HoldsPlaces positions
   pub inside : k < 8
 
--- a place as a number, which is then known to be small
-pub record PlaceRead (place number : ℕ) : Type 0 where
-  pub same : number ≡ place
-  pub small : number < 256
-
 -- the rows of a byte stand behind what was before the place, and nothing is changed from the end on
 pub record BytePut (byte first at end : ℕ) (before after : List ℕ) : Type 0 where
   pub front : take (at + length (placesOf byte)) after ≡ take at before ++ map (λ p. first + p) (placesOf byte)

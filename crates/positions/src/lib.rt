@@ -9,9 +9,10 @@ ghost use mathlib.Core.List.{map};
 ghost use Rattle.basis.specs.Lists.{below};
 ghost use Rattle.basis.specs.Buffers.{laid};
 ghost use Rattle.bits.specs.Marked.{markedBelow};
+ghost use Rattle.numbers.specs.OfBytes.{OfByte};
 ghost use Rattle.bits.specs.SetBits.{placesOf};
 ghost use Rattle.positions.specs.Steps.{rowAt, RowsFit, RowsByTable, WordByTable, ByteByTable};
-ghost use Rattle.positions.specs.Steps.{EntriesByTable, EntryByTable, PlaceRead, BytePut, WordPut};
+ghost use Rattle.positions.specs.Steps.{EntriesByTable, EntryByTable, BytePut, WordPut};
 
 // Writes the rows of all set bits, of which there are so many, to the front, byte after byte.
 pub fn write_rows(bits: &[u8], all: usize, out: &mut [u32])
@@ -141,13 +142,13 @@ fn write_places(
 // The place of a byte's set bit number k, by the table.
 fn position(positions: &[u8; 2048], byte: u8, k: usize) -> u32
     requires { ⌜ EntryByTable (now positions) k ⌝ }
-    ensures { λ r. ⌜ PlaceRead (getD (placesOf byte) k 0) r ⌝ }
+    ensures { λ r. ⌜ OfByte (getD (placesOf byte) k 0) r ⌝ }
 {
     row_number(positions[8 * numbers::wide(byte) + k])
 }
 
 fn row_number(place: u8) -> u32
-    ensures { λ r. ⌜ PlaceRead place r ⌝ }
+    ensures { λ r. ⌜ OfByte place r ⌝ }
 {
     place as u32
 }

@@ -7,6 +7,12 @@ use Rattle.limits.specs.Limits.{mostColumns, mostSlices, blockRows}
 use Rattle.directory.specs.Layout.{slicesBefore, bytesBefore}
 use Rattle.table.specs.Table.{widthOf, FitWidths, FitCodes}
 
+-- rows of codes that fit their columns, and a buffer with room for the body
+pub record FitBody (rows : ℕ) (widths codes out : List ℕ) : Type 0 where
+  pub fit-widths : FitWidths widths
+  pub fit-codes : FitCodes rows widths codes
+  pub room : bytesBefore rows (widthOf widths) (length widths) ≤ length out
+
 -- a block of rows of a register, and a buffer with room for the body
 pub record FitBlock (rows : ℕ) (widths codes : List ℕ) (first n : ℕ) (out : List ℕ) : Type 0 where
   pub fit-widths : FitWidths widths

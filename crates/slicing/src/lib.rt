@@ -2,25 +2,23 @@
 use limits::BLOCK_ROWS;
 ghost use mathlib.Core.Path.{_≡_};
 ghost use mathlib.Core.List.{map};
-ghost use Prim.Native.Nat.{_+_, _/_, _%_, _^_, _≤_, min};
+ghost use Prim.Native.Nat.{_+_, _/_, _%_, _^_, min};
 ghost use lib.ListN.{length, getD};
 ghost use Rattle.limits.specs.Limits.{blockRows};
 ghost use Rattle.basis.specs.Buffers.{laid};
 ghost use Rattle.basis.specs.Lists.{below};
 ghost use Rattle.codes.specs.Width.{slicesOf};
 ghost use Rattle.codes.specs.Bytes.{storedOf};
-ghost use Rattle.directory.specs.Layout.{slicesBefore, bytesBefore};
-ghost use Rattle.table.specs.Table.{widthOf, codeOf, FitWidths, FitCodes};
+ghost use Rattle.directory.specs.Layout.{slicesBefore};
+ghost use Rattle.table.specs.Table.{widthOf, codeOf};
 ghost use Rattle.slicing.specs.Body.{bodyOf};
 ghost use Rattle.table.specs.ManyAtOnce.{Holds};
-ghost use Rattle.slicing.specs.Putting.{FitBlock, FitColumn, FitCopy, FitRun, Put};
+ghost use Rattle.slicing.specs.Putting.{FitBody, FitBlock, FitColumn, FitCopy, FitRun, Put};
 
 // Writes the slices of all columns to the front, by blocks of rows, so that the codes are gone
 // through once.
 pub fn write_body(rows: usize, widths: &[u8], codes: &[u64], out: &mut [u8])
-    requires { ⌜ FitWidths (now widths) ⌝ }
-    requires { ⌜ FitCodes rows (now widths) (now codes) ⌝ }
-    requires { ⌜ bytesBefore rows (widthOf (now widths)) (length (now widths)) ≤ length (now out) ⌝ }
+    requires { ⌜ FitBody rows (now widths) (now codes) (now out) ⌝ }
     ensures { λ _. ⌜ now (out .exit) ≡ laid (now (out .entry)) 0 (bodyOf rows (now (widths .entry)) (now (codes .entry))) ⌝ }
 {
     let mut first = 0;

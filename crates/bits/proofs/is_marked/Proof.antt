@@ -29,7 +29,7 @@ returns-2 : tie.Need-returns-2
 unfolding bitIn
 returns-2 c =
     let row = c .before .before .before .before .args .row in
-    ap (λ (w : ℕ). eqb (c .wide .result / w % 2) 1) (weight row) ∙ rw (c .wide .ensures .0)
+    ap (λ (w : ℕ). eqb (c .wide .result / w % 2) 1) (weight row) ∙ rw (c .wide .ensures .same)
 
 pub is-marked-spec : {M : Type 1} → statement M
 is-marked-spec = tie.close (tie.spec returns (λ c. search needs) (λ c. search needs) (λ c κs. search needs) div-result returns-2)

@@ -24,7 +24,7 @@ returns-2 c =
     let rows = known .before .args .rows in
     let weight : 1 * 2 ^ (rows % 8) % 2 ^ 64 ≡ 2 ^ (rows % 8) = shl-exact 1 (rows % 8) 64 (lit< tt) (omega arith) ∙ one-mul _ in
     ap (λ (w : ℕ). leb w (c .wide .result)) weight
-    ∙ rw (c .wide .ensures .0) (sym (part-of-byte rows _ (omega arith) (omega (arith, c .wide .ensures .0))))
+    ∙ rw (c .wide .ensures .same) (sym (part-of-byte rows _ (omega arith) (omega (arith, c .wide .ensures .same))))
 
 pub marked-past-spec : {M : Type 1} → statement M
 marked-past-spec = tie.close (tie.spec returns (λ c. search needs) shared-slice-read-wide (λ c κs. search needs) returns-2)

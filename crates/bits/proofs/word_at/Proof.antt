@@ -17,7 +17,7 @@ returns c =
     let many = start .args .many in
     let size : i + many - i ≡ many = omega arith in
     word-read bits i many (start .pre .short) (start .pre .inside) (λ k. omega (arith, c .before .before .shared-slice-known .given k))
-    (c .number-of .result) (c .number-of .ensures .0 ∙ ap (λ (n : ℕ). little (take n (drop i bits))) size)
+    (c .number-of .result) (c .number-of .ensures .made ∙ ap (λ (n : ℕ). little (take n (drop i bits))) size)
 
 pub word-at-spec : {M : Type 1} → statement M
 word-at-spec =

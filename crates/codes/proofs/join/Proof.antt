@@ -46,8 +46,8 @@ loop-again c =
     let i = c .before .before .before .loop .i in
     let inside : i < length bytes = c .before .before .loop-test .taken in (
       omega arith,
-      rw (add-one, take-suc bytes i 0 inside, big-append-one, inv .1, c .wide64 .ensures .0),
-      rw (add-one, pow-suc) (digits-lt (inv .2) (c .wide64 .ensures .1)),
+      rw (add-one, take-suc bytes i 0 inside, big-append-one, inv .1, c .wide64 .ensures .same),
+      rw (add-one, pow-suc) (digits-lt (inv .2) (c .wide64 .ensures .small)),
     )
 
 div-result : tie.Need-div-result Inv-loop μ-loop

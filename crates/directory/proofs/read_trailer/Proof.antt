@@ -14,12 +14,12 @@ returns c =
     let columns = version .before .before in
     let rows = columns .before .before in
     record {
-      rows = rows .number-of .ensures .0;
-      columns = columns .number-of2 .ensures .0;
-      version = version .number-of3 .ensures .0;
-      directory = directory .number-of4 .ensures .0;
-      mark = c .number-of5 .ensures .0;
-      directory-small = four-bytes _ _ (omega arith) (directory .number-of4 .ensures .1);
+      rows = rows .number-of .ensures .made;
+      columns = columns .number-of2 .ensures .made;
+      version = version .number-of3 .ensures .made;
+      directory = directory .number-of4 .ensures .made;
+      mark = c .number-of5 .ensures .made;
+      directory-small = four-bytes _ _ (omega arith) (directory .number-of4 .ensures .small);
     }
 
 pub read-trailer-spec : {M : Type 1} → statement M

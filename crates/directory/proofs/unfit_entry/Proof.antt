@@ -17,7 +17,7 @@ returns-2 c =
     let width = c .before .before .before .before in
     simp (
       sym (width .unfit-width .ensures) ∙ c .before .before .before .if1 .left,
-      ne-eqb _ _ (λ e. c .if2 .taken (c .before .number-of .ensures .0 ∙ e)),
+      ne-eqb _ _ (λ e. c .if2 .taken (c .before .number-of .ensures .made ∙ e)),
     )
 
 returns-3 : tie.Need-returns-3
@@ -26,9 +26,9 @@ returns-3 c =
     let spare = c .before .before .before in
     let width = spare .before .before in
     simp (
-      c .number-of2 .ensures .0,
+      c .number-of2 .ensures .made,
       sym (width .before .unfit-width .ensures) ∙ width .if1 .left,
-      eq-eqb _ _ (sym (spare .number-of .ensures .0) ∙ c .before .before .if2 .left),
+      eq-eqb _ _ (sym (spare .number-of .ensures .made) ∙ c .before .before .if2 .left),
     )
 
 pub unfit-entry-spec : {M : Type 1} → statement M

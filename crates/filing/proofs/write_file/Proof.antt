@@ -53,7 +53,11 @@ body-length-requires c κs =
 write-body-requires : tie.Need-write-body-requires
 write-body-requires c κs =
     let pre = start (c .before) .pre in
-    (pre .fit-widths, (pre .fit-codes, omega (arith, room (c .before), c .before .body-length .ensures .counted)))
+    record {
+      fit-widths = pre .fit-widths;
+      fit-codes = pre .fit-codes;
+      room = omega (arith, room (c .before), c .before .body-length .ensures .counted);
+    }
 
 -- the bytes before the directory, and before the trailer, from where each is to be written
 abbrev countedFor : tie.After-write-directory-arg → tie.After-body-length

@@ -55,7 +55,7 @@ add-number c =
 loop-again : tie.Need-loop-again Inv-loop μ-loop
 loop-again c =
     let turn = c .before .before .before .loop in
-    one-more _ (turn .left) (turn .number) (c .wide .result) (turn .inv) (omega arith) (c .wide .ensures .0) (c .wide .ensures .1)
+    one-more _ (turn .left) (turn .number) (c .wide .result) (turn .inv) (omega arith) (c .wide .ensures .same) (c .wide .ensures .small)
 
 returns : tie.Need-returns Inv-loop μ-loop
 returns c =
@@ -63,7 +63,7 @@ returns c =
     let end : turn .left ≡ 0 = omega arith in
     let long = length (c .before .before .before .args .bytes .now) in
     let all : long - turn .left ≡ long = omega arith in
-    (rw end at (turn .inv .1), rw all at (turn .inv .2))
+    record { made = rw end at (turn .inv .1); small = rw all at (turn .inv .2) }
 
 pub number-of-spec : {M : Type 1} → statement M
 number-of-spec =

@@ -14,7 +14,7 @@ returns c =
     record {
       same =
           c .row-number .ensures .same
-          ∙ rw (byte .0) (start .pre .table (start .args .byte) (start .args .k) (omega arith) (start .pre .inside));
+          ∙ rw (byte .same) (start .pre .table (start .args .byte) (start .args .k) (omega arith) (start .pre .inside));
       small = c .row-number .ensures .small;
     }
 

@@ -8,7 +8,7 @@ use Rattle.register.proofs.offset_at.Tie as tie
 
 returns : tie.Need-returns
 unfolding offsetIn numberAt
-returns c = c .number-of .ensures .0 ∙ ap entryOffset (c .before .before .entry-of .ensures .bytes)
+returns c = c .number-of .ensures .made ∙ ap entryOffset (c .before .before .entry-of .ensures .bytes)
 
 pub offset-at-spec : {M : Type 1} → statement M
 offset-at-spec =

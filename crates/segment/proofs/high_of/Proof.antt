@@ -19,7 +19,7 @@ high-here : (c : tie.After-unit-of) →
 high-here c =
     let sliced = c .before .before .before in
     let a = sliced .before .before .args in
-    rw (c .before .wide64 .ensures .0, c .unit-of .ensures, sliced .before .byte-of .ensures)
+    rw (c .before .wide64 .ensures .same, c .unit-of .ensures, sliced .before .byte-of .ensures)
     (sym (high-last (a .width) (a .slice) _ (omega (arith, sliced .slices-of .ensures, c .before .before .if1 .taken))))
 
 is-a-byte : (c : tie.After-unit-of) →

@@ -35,11 +35,11 @@ write-block-requires c κs =
     let n = c .before .rows-in-block .ensures in
     let long = turn .before .loop .inv .1 .same-length in
     record {
-      fit-widths = pre .0;
-      fit-codes = pre .1 .0;
+      fit-widths = pre .fit-widths;
+      fit-codes = pre .fit-codes;
       within = omega arith;
       few = omega arith;
-      room = omega (arith, pre .1 .1);
+      room = omega (arith, pre .room);
     }
 
 add-first : tie.Need-add-first Inv-loop μ-loop
@@ -65,7 +65,7 @@ returns c =
     let args = begin .args in
     let long = length-bodyOf (args .rows) (args .widths .now) (args .codes .now) in
     let end : turn .first ≡ args .rows = omega arith in
-    put-all (args .rows) _ (args .out .now) _ long (omega (arith, begin .pre .1 .1)) (rw end at (turn .inv .1))
+    put-all (args .rows) _ (args .out .now) _ long (omega (arith, begin .pre .room)) (rw end at (turn .inv .1))
 
 pub write-body-spec : {M : Type 1} → statement M
 write-body-spec =

@@ -42,7 +42,7 @@ returns c =
     turn .inv .3 ∙ ap (λ (l : List ℕ). front ++ l) (grown text (turn .i) (omega arith) (turn .inside) (turn .value) digit) in
     let found =
     large-stays (drop (turn .i + 1) text) (turn .value * 10 + (getD text (turn .i) 0 - 48))
-    (omega (arith, c .before .wide64 .ensures .0)) in
+    (omega (arith, c .before .wide64 .ensures .same)) in
     record {
       read = large (found .0) (rw all (member-behind front (found .1))) (found .2);
       within = counted _ _ (turn .inv .1);
@@ -57,7 +57,7 @@ loop-again c =
     sym (c .before .before .before .is-digit .ensures) ∙ c .before .before .if1 .taken in
     let all : numbersIn text ≡ front ++ (numbersAfter true (turn .value * 10 + (getD text (turn .i) 0 - 48)) (drop (turn .i + 1) text)) =
     turn .inv .3 ∙ ap (λ (l : List ℕ). front ++ l) (grown text (turn .i) (omega arith) (turn .inside) (turn .value) digit) in
-    (omega arith, turn .inv .1, turn .inv .2, rw (c .before .wide64 .ensures .0) all)
+    (omega arith, turn .inv .1, turn .inv .2, rw (c .before .wide64 .ensures .same) all)
 
 returns-2 : tie.Need-returns-2 Inv-loop μ-loop
 returns-2 c =
