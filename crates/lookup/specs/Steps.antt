@@ -21,7 +21,7 @@ pub record NeitherAbove (bound a b : ℕ) : Type 0 where
   pub second : b ≤ bound
 
 -- the file opened as the shape, has the column and every listed row, and the output has room for their codes
-pub record CodesThere (file : List ℕ) (shape : Shape) (column : ℕ) (list out : List ℕ) : Type 0 where
+pub record ToLookUp (file : List ℕ) (shape : Shape) (column : ℕ) (list out : List ℕ) : Type 0 where
   pub opened : openedOf file ≡ Register shape
   pub column-there : column < shape .columns
   pub rows-there : AllBelow (shape .rows) list

@@ -7,7 +7,7 @@ ghost use mathlib.Core.Path.{_≡_};
 ghost use lib.ListN.{length};
 ghost use Rattle.basis.specs.Buffers.{laid};
 ghost use Rattle.answers.specs.Answers.{shownOf};
-ghost use Rattle.lookup.specs.Steps.{NoneAbove, NeitherAbove, CodesThere};
+ghost use Rattle.lookup.specs.Steps.{NoneAbove, NeitherAbove, ToLookUp};
 ghost use Rattle.lookup.specs.LookingUp.{firstMissing, codesOf, lookedUpOf, shownFor, leftIn};
 
 // Writes the code that each listed row has in a column to the front of `out`. Refused, it changes
@@ -83,7 +83,7 @@ fn greater(a: u32, b: u32) -> u32
 
 // Writes the code of each listed row to the front, one for each.
 fn write_codes(file: &[u8], shape: Shape, column: usize, list: &[u32], out: &mut [u64])
-    requires { ⌜ CodesThere (now file) shape column (now list) (now out) ⌝ }
+    requires { ⌜ ToLookUp (now file) shape column (now list) (now out) ⌝ }
     ensures { λ _. ⌜ now (out .exit) ≡ laid (now (out .entry)) 0 (codesOf (now (file .entry)) column (now (list .entry))) ⌝ }
 {
     let width = register::width_at(file, shape, column);

@@ -20,7 +20,7 @@ use Rattle.decimals.specs.declared.After.the-variants.{Space, LineFeed}
 use Rattle.decimals.specs.declared.Number.{Number}
 use Rattle.decimals.specs.declared.Number.the-variants.{Value, NoNumber}
 use Rattle.query_lines.specs.declared.Sign.the-variants.{Compares, NoSign}
-use Rattle.query_lines.specs.declared.Line.the-variants.{Asks, Malformed}
+use Rattle.query_lines.specs.declared.LineRead.the-variants.{Asks, Malformed}
 use Rattle.decimals.specs.Decimals.{decimal, space, lineFeed}
 use Rattle.query_lines.specs.Lines.{segmentWord, signOf, testText, SmallTest, BeginsSegment}
 use Rattle.decimals.specs.Reading.{NumberAt}

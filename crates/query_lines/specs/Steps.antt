@@ -12,8 +12,8 @@ use Rattle.decimals.specs.declared.Number.{Number}
 use Rattle.decimals.specs.declared.Number.the-variants.{Value, NoNumber}
 use Rattle.query_lines.specs.declared.Sign.{Sign}
 use Rattle.query_lines.specs.declared.Sign.the-variants.{Compares, NoSign}
-use Rattle.query_lines.specs.declared.Line.{Line}
-use Rattle.query_lines.specs.declared.Line.the-variants.{Asks, Malformed}
+use Rattle.query_lines.specs.declared.LineRead.{LineRead}
+use Rattle.query_lines.specs.declared.LineRead.the-variants.{Asks, Malformed}
 use Rattle.decimals.specs.Decimals.{space}
 use Rattle.query_lines.specs.Lines.{signOf, segmentText, testText, SmallTest, BeginsSegment}
 
@@ -33,7 +33,7 @@ abbrev pub spacedAt : List ℕ → ℕ → Comparison → Sign
 spacedAt text at comparison = cond (eqb (getD text at 0) space) (Compares comparison (at + 1)) NoSign
 
 -- a line of a test: the test and the place behind, or it is malformed
-abbrev pub LineAt : List ℕ → ℕ → Line → Type 0
+abbrev pub LineAt : List ℕ → ℕ → LineRead → Type 0
 LineAt text at (Asks test next) =
     SmallTest test × (at < next) × (next ≤ length text) × (drop at text ≡ testText test ++ drop next text)
 LineAt text at Malformed = (test : Test) (rest : List ℕ) → SmallTest test → drop at text ≡ testText test ++ rest → ⊥

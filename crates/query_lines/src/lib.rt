@@ -22,7 +22,7 @@ enum Sign {
 }
 
 // The test of a line, and the place behind the line.
-pub enum Line {
+pub enum LineRead {
     Asks(Test, usize),
     Malformed,
 }
@@ -59,23 +59,23 @@ fn begins(place: usize, byte: u8) -> bool
 }
 
 // A line of a test, from a place on: column, space, sign, space, literal, line feed.
-pub fn read_line(text: &[u8], at: usize) -> Line
+pub fn read_line(text: &[u8], at: usize) -> LineRead
     requires { ⌜ at ≤ length (now text) ⌝ }
     ensures { λ r. ⌜ LineAt (now (text .entry)) at r ⌝ }
 {
     let column = decimals::read_number(text, at, After::Space, GREATEST_DECIMAL);
     let Number::Value(column, behind) = column else {
-        return Line::Malformed;
+        return LineRead::Malformed;
     };
     let sign = read_sign(text, behind);
     let Sign::Compares(comparison, behind) = sign else {
-        return Line::Malformed;
+        return LineRead::Malformed;
     };
     let literal = decimals::read_number(text, behind, After::LineFeed, GREATEST_DECIMAL);
     let Number::Value(literal, behind) = literal else {
-        return Line::Malformed;
+        return LineRead::Malformed;
     };
-    Line::Asks(
+    LineRead::Asks(
         Test {
             column: column as usize,
             comparison: with_literal(comparison, literal),

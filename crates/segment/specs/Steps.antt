@@ -60,7 +60,8 @@ pub record SegmentFit (file : List ℕ) (rows first n : ℕ) (tests : List Test)
   pub within : first + n ≤ rows
 
 -- such a segment, and a plan to scan it by
-pub record SegmentPlanned (file : List ℕ) (rows first n : ℕ) (tests : List Test) (count : ℕ) (offsets slices lows highs : List ℕ) : Type 0 where
+pub record SegmentPlanned (file : List ℕ) (rows first n : ℕ) (tests : List Test) (count : ℕ) (offsets slices lows highs : List ℕ) :
+    Type 0 where
   pub fit : SegmentFit file rows first n tests count
   pub plan : Planned file tests count offsets slices lows highs
 

@@ -44,8 +44,8 @@ noRows =
     ∷ []
 
 -- "0 < literal", and "1 = 5"
-abbrev pub below : ℕ → Test
-below literal = record { column = 0; comparison = Less literal }
+abbrev pub under : ℕ → Test
+under literal = record { column = 0; comparison = Less literal }
 
 abbrev pub five : Test
 five = record { column = 1; comparison = Equal 5 }

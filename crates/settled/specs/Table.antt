@@ -3,7 +3,7 @@ use Prim.Native.Nat.{ℕ}
 use mathlib.Core.List.{List, [], _∷_, _++_}
 use lib.ListN.{take, replicate}
 use Rattle.settled.specs.Questions.{Question, joining, writing, opening, scanning, listing}
-use Rattle.settled.specs.Registers.{twoRows, tenRows, tenCodes, oneByte, noRows, below, five}
+use Rattle.settled.specs.Registers.{twoRows, tenRows, tenCodes, oneByte, noRows, under, five}
 
 -- a line of the table
 pub record Example : Type 0 where
@@ -44,22 +44,22 @@ table =
     ∷ (opening (take 27 twoRows) must-give refused 1 0 0 ++ (0 ∷ 0 ∷ []))
     ∷ (opening (0 ∷ twoRows) must-give refused 5 0 0 ++ (0 ∷ 0 ∷ []))
     -- P5: code 128 fails "< 127"; literal 255 is accepted, 256 gives 13
-    ∷ (scanning oneByte 8 (below 127 ∷ []) (7 ∷ 7 ∷ []) must-give scanned 0 1 (1 ∷ []) (0 ∷ 7 ∷ []))
-    ∷ (scanning oneByte 8 (below 255 ∷ []) (7 ∷ 7 ∷ []) must-give scanned 1 1 (1 ∷ []) (1 ∷ 7 ∷ []))
-    ∷ (scanning oneByte 8 (below 256 ∷ []) (7 ∷ 7 ∷ []) must-give unscanned 13 0 0 (7 ∷ 7 ∷ []))
+    ∷ (scanning oneByte 8 (under 127 ∷ []) (7 ∷ 7 ∷ []) must-give scanned 0 1 (1 ∷ []) (0 ∷ 7 ∷ []))
+    ∷ (scanning oneByte 8 (under 255 ∷ []) (7 ∷ 7 ∷ []) must-give scanned 1 1 (1 ∷ []) (1 ∷ 7 ∷ []))
+    ∷ (scanning oneByte 8 (under 256 ∷ []) (7 ∷ 7 ∷ []) must-give unscanned 13 0 0 (7 ∷ 7 ∷ []))
     -- P6: the ten rows, as written; both tests; the first alone
     ∷ (writing 10 (11 ∷ 3 ∷ []) tenCodes (replicate 62 7) must-give accepted (62 ∷ []) ++ tenRows)
-    ∷ (scanning tenRows 8 (below 512 ∷ five ∷ []) (7 ∷ 7 ∷ 7 ∷ []) must-give scanned 3 22 (12 ∷ 10 ∷ []) (0xA1 ∷ 0x00 ∷ 7 ∷ []))
-    ∷ (scanning tenRows 8 (below 512 ∷ []) (7 ∷ 7 ∷ 7 ∷ []) must-give scanned 4 20 (20 ∷ []) (0xA3 ∷ 0x00 ∷ 7 ∷ []))
+    ∷ (scanning tenRows 8 (under 512 ∷ five ∷ []) (7 ∷ 7 ∷ 7 ∷ []) must-give scanned 3 22 (12 ∷ 10 ∷ []) (0xA1 ∷ 0x00 ∷ 7 ∷ []))
+    ∷ (scanning tenRows 8 (under 512 ∷ []) (7 ∷ 7 ∷ 7 ∷ []) must-give scanned 4 20 (20 ∷ []) (0xA3 ∷ 0x00 ∷ 7 ∷ []))
     -- P7: tests exchanged
-    ∷ (scanning tenRows 8 (five ∷ below 512 ∷ []) (7 ∷ 7 ∷ 7 ∷ []) must-give scanned 3 22 (10 ∷ 12 ∷ []) (0xA1 ∷ 0x00 ∷ 7 ∷ []))
+    ∷ (scanning tenRows 8 (five ∷ under 512 ∷ []) (7 ∷ 7 ∷ 7 ∷ []) must-give scanned 3 22 (10 ∷ 12 ∷ []) (0xA1 ∷ 0x00 ∷ 7 ∷ []))
     -- P8: segment 16
-    ∷ (scanning tenRows 16 (below 512 ∷ five ∷ []) (7 ∷ 7 ∷ 7 ∷ []) must-give scanned 3 30 (20 ∷ 10 ∷ []) (0xA1 ∷ 0x00 ∷ 7 ∷ []))
+    ∷ (scanning tenRows 16 (under 512 ∷ five ∷ []) (7 ∷ 7 ∷ 7 ∷ []) must-give scanned 3 30 (20 ∷ 10 ∷ []) (0xA1 ∷ 0x00 ∷ 7 ∷ []))
     -- P9: no tests
     ∷ (scanning tenRows 8 [] (7 ∷ 7 ∷ 7 ∷ []) must-give scanned 10 0 [] (0xFF ∷ 0x03 ∷ 7 ∷ []))
     -- P10: the list of A1 00; P11: FF 07 has a bit past the last row
     ∷ (listing 10 (0xA1 ∷ 0x00 ∷ []) (7 ∷ 7 ∷ 7 ∷ 7 ∷ []) must-give accepted (3 ∷ []) ++ (0 ∷ 5 ∷ 7 ∷ 7 ∷ []))
     ∷ (listing 10 (0xFF ∷ 0x07 ∷ []) (7 ∷ []) must-give refused 16 0 0 ++ (0 ∷ 7 ∷ []))
     -- P12: no rows, one column
-    ∷ (scanning noRows 8 (below 127 ∷ []) (7 ∷ []) must-give scanned 0 0 (0 ∷ []) (7 ∷ []))
+    ∷ (scanning noRows 8 (under 127 ∷ []) (7 ∷ []) must-give scanned 0 0 (0 ∷ []) (7 ∷ []))
     ∷ []

@@ -23,7 +23,7 @@ use Rattle.table.specs.Table.{widthOf, codeOf}
 use Rattle.slicing.specs.Body.{bodyOf}
 use Rattle.basis.specs.Buffers.{laid}
 use Rattle.table.specs.ManyAtOnce.{Holds}
-use Rattle.slicing.specs.Putting.{Put}
+use Rattle.slicing.specs.Putting.{BodyPut}
 use Rattle.slicing.proofs.Lengths.{length-bodyOf}
 use Rattle.slicing.proofs.Body.{byte-in-body}
 use Rattle.slicing.proofs.Putting.{put-run}
@@ -58,7 +58,7 @@ module _ (rows : ℕ) (widths codes : List ℕ) (column slice first n : ℕ) (co
       Holds (λ k. storedOf (widthOf widths column) (codeOf widths codes (first + k) column)) n stored →
       bytesBefore rows (widthOf widths) (length widths) ≤ length before →
       after ≡ laid before (rows * (slices + slice) + first) (runOf stored n (8 * (own - 1 - slice))) →
-      Put rows (bodyOf rows widths codes) before after first (first + n) (slices + slice) (slices + (slice + 1))
+      BodyPut rows (bodyOf rows widths codes) before after first (first + n) (slices + slice) (slices + (slice + 1))
   run-put slices own stored before counted owned copied room said =
       let run = runOf stored n (8 * (own - 1 - slice)) in
       let long = length-runOf stored n (8 * (own - 1 - slice)) in

@@ -17,7 +17,7 @@ use lib.Seq.{getD-take, getD-drop, getD-append-add, length-take-le, ext-getD}
 use Rattle.basis.specs.Buffers.{laid}
 use Rattle.basis.proofs.Buffers.{length-laid}
 use Rattle.basis.proofs.Runs.{within-or-past}
-use Rattle.slicing.specs.Putting.{Put}
+use Rattle.slicing.specs.Putting.{BodyPut}
 
 -- what stands at a place of a buffer with a list laid into it
 module _ (buffer : List ℕ) (at : ℕ) (list : List ℕ) (room : at + length list ≤ length buffer) where
@@ -51,17 +51,17 @@ module _ (buffer : List ℕ) (at : ℕ) (list : List ℕ) (room : at + length li
       rw (one, other) at (laid-behind k)
 
 module _ (rows : ℕ) (body : List ℕ) where
-  pub put-nothing : (out : List ℕ) (first past slice : ℕ) → Put rows body out out first past slice slice
+  pub put-nothing : (out : List ℕ) (first past slice : ℕ) → BodyPut rows body out out first past slice slice
   put-nothing out first past slice =
       record { same-length = refl; kept = λ place h. h; put = λ s row h k. absurd (omega arith); behind = λ place h. refl }
 
-  pub put-no-rows : (out : List ℕ) (first from to : ℕ) → Put rows body out out first first from to
+  pub put-no-rows : (out : List ℕ) (first from to : ℕ) → BodyPut rows body out out first first from to
   put-no-rows out first from to =
       record { same-length = refl; kept = λ place h. h; put = λ s row h k l m. absurd (omega arith); behind = λ place h. refl }
 
   module _ {before mid after : List ℕ} {first past from to : ℕ} where
-    pub put-slices : {via : ℕ} → Put rows body before mid first past from via → Put rows body mid after first past via to →
-        Put rows body before after first past from to
+    pub put-slices : {via : ℕ} → BodyPut rows body before mid first past from via → BodyPut rows body mid after first past via to →
+        BodyPut rows body before after first past from to
     put-slices {via} one two =
         record {
           same-length = two .same-length ∙ one .same-length;
@@ -76,8 +76,8 @@ module _ (rows : ℕ) (body : List ℕ) where
             two .kept (rows * slice + row) (one .put slice row low sooner within early)
         go slice row low high within early (inr later) = two .put slice row later high within early
 
-    pub put-rows : {via : ℕ} → Put rows body before mid first via from to → Put rows body mid after via past from to →
-        Put rows body before after first past from to
+    pub put-rows : {via : ℕ} → BodyPut rows body before mid first via from to → BodyPut rows body mid after via past from to →
+        BodyPut rows body before after first past from to
     put-rows {via} one two =
         record {
           same-length = two .same-length ∙ one .same-length;
@@ -96,7 +96,7 @@ module _ (rows : ℕ) (body : List ℕ) where
       ((k : ℕ) → k < length run → getD run k 0 ≡ getD body (rows * slice + (first + k)) 0) →
       rows * slice + first + length run ≤ length body → length body ≤ length before →
       after ≡ laid before (rows * slice + first) run →
-      Put rows body before after first (first + length run) slice (slice + 1)
+      BodyPut rows body before after first (first + length run) slice (slice + 1)
   put-run before first slice run right within room said = rw said whole
     where
       at : ℕ
@@ -119,7 +119,7 @@ module _ (rows : ℕ) (body : List ℕ) where
           rw own at (here k (omega arith))
       kept-there place h (inr reached) (inr later) = laid-past before at run fits place later ∙ h
 
-      whole : Put rows body before (laid before at run) first (first + length run) slice (slice + 1)
+      whole : BodyPut rows body before (laid before at run) first (first + length run) slice (slice + 1)
       whole =
           record {
             same-length = length-laid before at run fits;
@@ -137,7 +137,7 @@ module _ (rows : ℕ) (body : List ℕ) where
               rw only (rw own at (here k (omega arith)))
 
   pub put-all : (before : List ℕ) {after : List ℕ} (slices : ℕ) → length body ≡ rows * slices → length body ≤ length before →
-      Put rows body before after 0 rows 0 slices → after ≡ laid before 0 body
+      BodyPut rows body before after 0 rows 0 slices → after ≡ laid before 0 body
   put-all before {after} slices long room all =
       ext-getD 0 after (laid before 0 body) (all .same-length ∙ sym (length-laid before 0 body (omega arith)))
       (λ place h. go place (within-or-past place (length body)))

@@ -45,7 +45,7 @@ pub record FitRun (n shift at : ℕ) (out : List ℕ) : Type 0 where
 
 -- a buffer whose front is becoming a body: what was right stays right, the rows from `first` to before `past` are right in the slices
 -- from `from` to before `to`, and nothing behind the body is touched
-pub record Put (rows : ℕ) (body before after : List ℕ) (first past from to : ℕ) : Type 0 where
+pub record BodyPut (rows : ℕ) (body before after : List ℕ) (first past from to : ℕ) : Type 0 where
   pub same-length : length after ≡ length before
   pub kept : (place : ℕ) → getD before place 0 ≡ getD body place 0 → getD after place 0 ≡ getD body place 0
   pub put : (slice row : ℕ) → from ≤ slice → slice < to → first ≤ row → row < past →

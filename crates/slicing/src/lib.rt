@@ -13,7 +13,7 @@ ghost use Rattle.directory.specs.Layout.{slicesBefore};
 ghost use Rattle.table.specs.Table.{widthOf, codeOf};
 ghost use Rattle.slicing.specs.Body.{bodyOf};
 ghost use Rattle.table.specs.ManyAtOnce.{Holds};
-ghost use Rattle.slicing.specs.Putting.{FitBody, FitBlock, FitColumn, FitCopy, FitRun, Put};
+ghost use Rattle.slicing.specs.Putting.{FitBody, FitBlock, FitColumn, FitCopy, FitRun, BodyPut};
 
 // Writes the slices of all columns to the front, by blocks of rows, so that the codes are gone
 // through once.
@@ -42,7 +42,7 @@ fn rows_in_block(left: usize) -> usize
 // Writes the bytes of a block of rows, column after column.
 fn write_block(rows: usize, widths: &[u8], codes: &[u64], first: usize, n: usize, out: &mut [u8])
     requires { ⌜ FitBlock rows (now widths) (now codes) first n (now out) ⌝ }
-    ensures { λ _. ⌜ Put rows (bodyOf rows (now (widths .entry)) (now (codes .entry))) (now (out .entry)) (now (out .exit))
+    ensures { λ _. ⌜ BodyPut rows (bodyOf rows (now (widths .entry)) (now (codes .entry))) (now (out .entry)) (now (out .exit))
         first (first + n) 0 (slicesBefore (widthOf (now (widths .entry))) (length (now (widths .entry)))) ⌝ }
 {
     let mut slices: usize = 0;
@@ -67,7 +67,7 @@ fn write_block_column(
     out: &mut [u8],
 )
     requires { ⌜ FitColumn rows (now widths) (now codes) column slices first n (now out) ⌝ }
-    ensures { λ _. ⌜ Put rows (bodyOf rows (now (widths .entry)) (now (codes .entry))) (now (out .entry)) (now (out .exit))
+    ensures { λ _. ⌜ BodyPut rows (bodyOf rows (now (widths .entry)) (now (codes .entry))) (now (out .entry)) (now (out .exit))
         first (first + n) slices (slices + slicesOf (widthOf (now (widths .entry)) column)) ⌝ }
 {
     let mut stored = [0u32; BLOCK_ROWS];

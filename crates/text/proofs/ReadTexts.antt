@@ -15,7 +15,7 @@ use Rattle.query.specs.declared.Test.{Test}
 use Rattle.limits.specs.Limits.{mostTests}
 use Rattle.query.specs.Tests.{emptySlot, slotsOf}
 use Rattle.decimals.specs.declared.Number.the-variants.{Value}
-use Rattle.query_lines.specs.declared.Line.the-variants.{Asks, Malformed}
+use Rattle.query_lines.specs.declared.LineRead.the-variants.{Asks, Malformed}
 use Rattle.text.specs.declared.Asked.{Asked}
 use Rattle.query_lines.specs.Lines.{segmentText, testText, textOf}
 use Rattle.text.specs.Reading.{refusedWith, Formed, Reads}

@@ -4,7 +4,7 @@ use answers::Refusal;
 use decimals::Number;
 use limits::MOST_TESTS;
 use query::Query;
-use query_lines::Line;
+use query_lines::LineRead;
 ghost use mathlib.Core.Path.{_≡_};
 ghost use Rattle.text.specs.Reading.{Reads, refusedWith};
 
@@ -29,7 +29,7 @@ pub fn read(text: &[u8]) -> Asked
     let mut count: usize = 0;
     while at < text.len() {
         let line = query_lines::read_line(text, at);
-        let Line::Asks(test, next) = line else {
+        let LineRead::Asks(test, next) = line else {
             return refused(17, count + 1);
         };
         if count < MOST_TESTS {

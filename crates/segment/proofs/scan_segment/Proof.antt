@@ -90,7 +90,8 @@ tests-again c =
           let shown : SomeOpen = record { before = counted; if2 = w .3 } in
           same-progress (w .10) (w .11) (w .12)
           (taken (so-far turn) next (fit entry) (counts-it shown) (w .9 .ensures) (long shown)
-          (λ k h stands. steps-right (pre .fit) (pre .plan) (testOf turn) (sliceOf turn) next (within shown) (fit entry .there) _ k h stands)
+          (λ k h stands.
+          steps-right (pre .fit) (pre .plan) (testOf turn) (sliceOf turn) next (within shown) (fit entry .there) _ k h stands)
           refl))
           (⊎-elim
           (λ w.

@@ -7,7 +7,7 @@ use lib.ListN.{length}
 use Rattle.directory.specs.Layout.{slicesBefore}
 use Rattle.table.specs.Table.{widthOf}
 use Rattle.slicing.specs.Body.{bodyOf}
-use Rattle.slicing.specs.Putting.{Put}
+use Rattle.slicing.specs.Putting.{BodyPut}
 use Rattle.table.proofs.Columns.{Counted, none-counted, one-more-counted}
 use Rattle.slicing.proofs.Putting.{put-nothing, put-slices}
 use Rattle.slicing.proofs.write_block.Statement.{statement}
@@ -15,7 +15,7 @@ use Rattle.slicing.proofs.write_block.Tie as tie
 
 abbrev Inv-loop : tie.InvT-loop
 Inv-loop rows widths codes first n out₀ slices₀ column₀ out slices column =
-    Counted widths slices column × Put rows (bodyOf rows widths codes) out₀ out first (first + n) 0 slices
+    Counted widths slices column × BodyPut rows (bodyOf rows widths codes) out₀ out first (first + n) 0 slices
 
 abbrev μ-loop : tie.MeasureT-loop
 μ-loop rows widths codes first n out₀ slices₀ column₀ out slices column = length widths - column

@@ -9,7 +9,7 @@ use Rattle.limits.specs.Limits.{mostSlices}
 use Rattle.codes.specs.Width.{slicesOf}
 use Rattle.table.specs.Table.{widthOf}
 use Rattle.slicing.specs.Body.{bodyOf}
-use Rattle.slicing.specs.Putting.{Put}
+use Rattle.slicing.specs.Putting.{BodyPut}
 use Rattle.codes.proofs.Width.{few-slices-of}
 use Rattle.table.proofs.Columns.{narrow}
 use Rattle.slicing.proofs.Putting.{put-nothing, put-slices}
@@ -19,7 +19,7 @@ use Rattle.slicing.proofs.write_block_column.Tie as tie
 
 abbrev Inv-loop : tie.InvT-loop
 Inv-loop rows widths codes column slices first n out₀ stored own slice₀ out slice =
-    (slice ≤ own) × Put rows (bodyOf rows widths codes) out₀ out first (first + n) slices (slices + slice)
+    (slice ≤ own) × BodyPut rows (bodyOf rows widths codes) out₀ out first (first + n) slices (slices + slice)
 
 abbrev μ-loop : tie.MeasureT-loop
 μ-loop rows widths codes column slices first n out₀ stored own slice₀ out slice = own - slice

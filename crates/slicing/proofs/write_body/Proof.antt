@@ -8,7 +8,7 @@ use lib.ListN.{length}
 use Rattle.directory.specs.Layout.{slicesBefore}
 use Rattle.table.specs.Table.{widthOf}
 use Rattle.slicing.specs.Body.{bodyOf}
-use Rattle.slicing.specs.Putting.{Put}
+use Rattle.slicing.specs.Putting.{BodyPut}
 use Rattle.slicing.proofs.Lengths.{length-bodyOf}
 use Rattle.slicing.proofs.Putting.{put-no-rows, put-rows, put-all}
 use Rattle.slicing.proofs.write_body.Statement.{statement}
@@ -16,7 +16,7 @@ use Rattle.slicing.proofs.write_body.Tie as tie
 
 abbrev Inv-loop : tie.InvT-loop
 Inv-loop rows widths codes out₀ first₀ out first =
-    (first ≤ rows) × Put rows (bodyOf rows widths codes) out₀ out 0 first 0 (slicesBefore (widthOf widths) (length widths))
+    (first ≤ rows) × BodyPut rows (bodyOf rows widths codes) out₀ out 0 first 0 (slicesBefore (widthOf widths) (length widths))
 
 abbrev μ-loop : tie.MeasureT-loop
 μ-loop rows widths codes out₀ first₀ out first = rows - first

@@ -8,7 +8,7 @@ use mathlib.Core.List.{List}
 use borrow.Author.Needs.{needs}
 use lib.ListN.{length}
 use Rattle.text.specs.declared.Asked.{Asked}
-use Rattle.query_lines.specs.declared.Line.the-variants.{Asks}
+use Rattle.query_lines.specs.declared.LineRead.the-variants.{Asks}
 use Rattle.text.specs.Reading.{Reads}
 use Rattle.query_lines.specs.Steps.{LineAt}
 use Rattle.text.proofs.ReadTexts.{ReadUpTo, first-line, kept-line, counted-line, malformed-line, whole-text, too-many-lines}

@@ -54,7 +54,8 @@ abbrev pub μ-slices : tie.MeasureT-slices
 μ-slices file rows first n tests count offsets slices lows highs standings₀ inside₀ counts₀ j₀ standings inside counts j = mostSlices - j
 
 -- what is asked with these three loops
-abbrev pub Loops : (tie.InvT-rows → tie.MeasureT-rows → tie.InvT-tests → tie.MeasureT-tests → tie.InvT-slices → tie.MeasureT-slices → Type 0) →
+abbrev pub Loops :
+    (tie.InvT-rows → tie.MeasureT-rows → tie.InvT-tests → tie.MeasureT-tests → tie.InvT-slices → tie.MeasureT-slices → Type 0) →
     Type 0
 Loops Asked = Asked Inv-rows μ-rows Inv-tests μ-tests Inv-slices μ-slices
 
