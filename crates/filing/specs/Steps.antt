@@ -8,7 +8,7 @@ use Rattle.directory.specs.Layout.{slicesBefore, bytesBefore}
 use Rattle.table.specs.Table.{widthOf, FitWidths, FitCodes}
 use Rattle.filing.specs.Layout.{fileLength}
 
--- widths that a register may have, and as many rows
+-- widths that a register may have, and no more rows than it may have
 pub record FitShape (rows : ℕ) (widths : List ℕ) : Type 0 where
   pub fit-widths : FitWidths widths
   pub few-rows : rows ≤ mostRows
