@@ -4,7 +4,7 @@ use mathlib.Core.Path.{_≡_}
 use mathlib.Core.List.{List}
 use mathlib.Core.Bool.{Bool, true}
 use lib.Dec.{eqb}
-use lib.ListN.{length}
+use lib.ListN.{length, take}
 use Rattle.files.specs.declared.Taken.{Taken}
 use Rattle.files.specs.declared.Taken.the-variants.{Unreadable}
 use Rattle.files.specs.Taking.{numberOf, countOf, TakenInto}
@@ -12,7 +12,7 @@ use Rattle.limits.specs.Limits.{mostFile}
 use Rattle.pieces.specs.Pieces.{PieceWritten}
 use Rattle.finding.specs.declared.Found.{Found}
 use Rattle.listing.specs.Found.{Listable, foundLines}
-use Rattle.listing.specs.Inputs.{unreadInput, PrintLength}
+use Rattle.listing.specs.Inputs.{unreadInput, unreadInputs, PrintLength}
 use Rattle.printing.specs.declared.Piece.{Piece}
 use Rattle.printing.specs.declared.Printed.{Printed}
 
@@ -56,3 +56,12 @@ pub record FoundPrinted (file bits : List ℕ) (found : Found) (printed : Printe
 pub record PrintedOf (unread : Bool) (file text : List ℕ) (printed : Printed) : Type 0 where
   pub within : printed .written ≤ printed .all
   pub whole : PrintLength unread file text (printed .all)
+
+-- what was taken of the file and of the text, where the latter was asked for, stands in what was lent for them, and is what was printed of
+pub record PartsListed (file-before file text-before text : List ℕ) (printed : Printed) : Type 0 where
+  pub taken : Taken
+  pub given : Taken
+  pub file-taken : TakenInto file-before file taken
+  pub text-taken : TextTaken taken text-before text given
+  pub listed : PrintedOf (unreadInputs (isRead taken) (countOf taken) (isRead given) (countOf given)) (take (countOf taken) file)
+      (take (countOf given) text) printed

@@ -13,7 +13,7 @@ ghost use Rattle.files.specs.Taking.{countOf};
 ghost use Rattle.listing.specs.Found.{Listable, foundLines};
 ghost use Rattle.listing.specs.Inputs.{unreadInputs};
 ghost use Rattle.printing.specs.Printing.{isRead, refusedFile, TextTaken, PieceOf, PrintedOf};
-ghost use Rattle.printing.specs.Printing.{InputsTaken, FoundPrintable, FoundPrinted};
+ghost use Rattle.printing.specs.Printing.{InputsTaken, FoundPrintable, FoundPrinted, PartsListed};
 
 // How many bytes of the listing were written, of how many there are.
 pub struct Printed {
@@ -31,7 +31,7 @@ struct Piece {
 // Reads the file and the text into what is lent for them, and prints by way of `out`.
 pub fn list_parts(file: &mut [u8], text: &mut [u8], out: &mut [u8]) -> Printed
     requires { ⌜ 0 < length (now out) ⌝ }
-    ensures { λ r. ⌜ r .written ≤ r .all ⌝ }
+    ensures { λ r. ⌜ PartsListed (now (file .entry)) (now (file .exit)) (now (text .entry)) (now (text .exit)) r ⌝ }
 {
     let taken = files::read_file(b"parts.bsl", file);
     let given = take_text(taken, text);
