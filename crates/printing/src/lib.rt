@@ -7,7 +7,7 @@ use libc::STDOUT_FILENO;
 use limits::MOST_BITS;
 use limits::MOST_FILE;
 ghost use mathlib.Core.Path.{_≡_};
-ghost use Prim.Native.Nat.{_-_, _≤_, _<_};
+ghost use Prim.Native.Nat.{_-_, _<_};
 ghost use lib.ListN.{length, take};
 ghost use Rattle.files.specs.Taking.{countOf};
 ghost use Rattle.listing.specs.Found.{Listable, foundLines};
