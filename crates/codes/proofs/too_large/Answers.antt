@@ -6,12 +6,8 @@ use lib.Dec.{lit<}
 use lib.Pow.{shl_exact}
 use borrow.Author.Rules.{rules}
 use Rattle.codes.specs.Width.{too_large}
-use Rattle.codes.proofs.too_large.Statement.{statement}
-use Rattle.codes.proofs.too_large.Tie as tie
+use Rattle.codes.proofs.too_large.Goals as goal
 
-returns : tie.Need-returns
+pub returns : goal.returns
 unfolding too_large
 returns c = rw (shl_exact 1 c.args.width 64 (lit< tt) (omega arith) ∙ one-mul _)
-
-pub too_large_spec : {M : Type 1} → statement M
-too_large_spec = tie.close (tie.spec (λ c. search rules) returns)
