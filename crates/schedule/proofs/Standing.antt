@@ -57,7 +57,7 @@ module _ {Test : Type 0} (M : Machine Test) (L : Lawful M) (R : Bytes Test) wher
     where
       go : (j < M.slices t) ⊎ (M.slices t ≤ j) → T (M.rules_out t (suc j) (standing M R t (suc j) row))
       go (inl within) =
-          rw (standing_next M R t j row within) (L.Stays-out t j (standing M R t j row) (R t j row) within out)
+          rw (standing_next M R t j row within) (L.stays_out t j (standing M R t j row) (R t j row) within out)
       go (inr past) = rw (standing_past M R t j row past) (L.stays_out_past t j (standing M R t j row) past out)
 
   pub ruled_out_next : (q : List Test) (j row : ℕ) → T (ruled_out M R q j row) → T (ruled_out M R q (suc j) row)

@@ -1,0 +1,31 @@
+-- What the loop of `fit_columns` keeps, and what each turn makes less.
+use Prim.Native.Nat.{ℕ, ◌+◌, ◌-◌, ◌*◌, ◌≤◌, ◌<◌}
+use native.Mathlib.Omega.{arith}
+use native.Mathlib.Numerals.{add-one}
+use mathlib.Core.Path.{◌≡◌, refl, sym, ap, ◌∙◌}
+use mathlib.Core.List.{List}
+use mathlib.Core.Bool.{false}
+use borrow.Author.Rules.{rules}
+use borrow.Author.Count.{below_more}
+use lib.ListN.{length, take, drop}
+use Rattle.limits.specs.Limits.{most_slices, entry_bytes}
+use Rattle.basis.proofs.Places.{first_is, first_is_none}
+use Rattle.codes.specs.Width.{slices_of}
+use Rattle.codes.proofs.Width.{few_slices_of}
+use Rattle.directory.specs.Layout.{slices_before}
+use Rattle.directory.specs.File.{entry_in, entry_width, width_in, unfit_column}
+use Rattle.directory.proofs.Entries.{entry_cut, unfit_by_entry, fit_column, one_more_column, few_bytes}
+use Rattle.directory.proofs.fit_columns.Given as goal
+
+-- the columns passed are fit, and their slices are counted
+pub record Passed (file : List ℕ) (columns slices column : ℕ) : Type 0 where
+  pub within : column ≤ columns
+  pub fit : (earlier : ℕ) → earlier < column → unfit_column file earlier ≡ false
+  pub counted : slices ≡ slices_before (width_in file) column
+  pub few : slices ≤ most_slices * column
+
+abbrev pub invariant-loop-column : goal.invariant-loop-column
+invariant-loop-column l = Passed l.file l.columns l.slices l.column
+
+abbrev pub decreases-loop-column : goal.decreases-loop-column
+decreases-loop-column l = l.columns - l.column
