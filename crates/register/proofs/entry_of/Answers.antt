@@ -12,8 +12,7 @@ use Rattle.directory.specs.File.{directory_in}
 use Rattle.register.specs.Opening.{opened_of}
 use Rattle.register.proofs.Fit.{opened_is_fit, columns_as_opened}
 use Rattle.directory.proofs.Entries.{entry_cut}
-use Rattle.register.proofs.entry_of.Statement.{statement}
-use Rattle.register.proofs.entry_of.Tie as tie
+use Rattle.register.proofs.entry_of.Goals as goal
 
 -- an opened file has room for its directory and its trailer
 room : (file : List ℕ) (shape : Shape) → opened_of file ≡ Register shape →
@@ -22,36 +21,22 @@ room file shape opened =
     let fit = (opened_is_fit file shape opened).0 in
     rw (columns_as_opened file shape opened) (fit.few_columns, fit.placed)
 
-sub-from : tie.Need-overflow-sub-from
-sub-from c = let known = room _ _ c.requires.opened in omega arith
+pub overflow_sub-from : goal.overflow_sub-from
+overflow_sub-from c = let known = room _ _ c.requires.opened in omega arith
 
-mul-from : tie.Need-overflow-mul-from
-mul-from c = let known = room _ _ c.requires.opened in omega arith
+pub overflow_mul-from : goal.overflow_mul-from
+overflow_mul-from c = let known = room _ _ c.requires.opened in omega arith
 
-sub-from-3 : tie.Need-overflow-sub-from-3
-sub-from-3 c = let known = room _ _ c.requires.opened in omega arith
+pub overflow_sub-from-3 : goal.overflow_sub-from-3
+overflow_sub-from-3 c = let known = room _ _ c.requires.opened in omega arith
 
-part-result-end : tie.Need-slice-bounds-result-end
-part-result-end c = let known = room _ _ c.requires.opened in omega arith
+pub slice_bounds-result-end : goal.slice_bounds-result-end
+slice_bounds-result-end c = let known = room _ _ c.requires.opened in omega arith
 
-returns : tie.Need-returns
+pub returns : goal.returns
 returns c =
-    let known = room _ _ c.before.requires.opened in
-    let a = c.before.args in
+    let known = room _ _ c.requires.opened in
+    let a = c.args in
     let from = length a.file.now - trailer_bytes - entry_bytes * (a.shape.columns - a.column) in
     let cut = entry_cut a.file.now from a.column (omega arith) (omega arith) in
     record { bytes = cut.0; whole = cut.1 }
-
-pub entry_of_spec : {M : Type 1} → statement M
-entry_of_spec =
-    tie.close
-    (tie.spec
-    sub-from
-    (λ c. search rules)
-    mul-from
-    sub-from-3
-    (λ c. search rules)
-    (λ c. search rules)
-    (λ c. search rules)
-    part-result-end
-    returns)
