@@ -1,9 +1,12 @@
 // What a call answers: so many elements written to the front of a lent buffer, or a refusal.
+
+#![tactic(auto)]
+
 ghost use Rattle.std.specs.Prelude.{◌≡◌};
 ghost use Rattle.answers.specs.Answers.{refused_with, no_refusal};
 
 // A refusal: its number in the table, its place and its need, each 0 where it has none.
-#[derive(Drop)]
+#[derive(Clone, Copy)]
 pub struct Refusal {
     pub number: usize,
     pub place: usize,
@@ -11,7 +14,7 @@ pub struct Refusal {
 }
 
 // The answer of a call that writes: how many elements were written, or the refusal.
-#[derive(Drop)]
+#[derive(Clone, Copy)]
 pub enum Answer {
     Elements(usize),
     Refused(Refusal),

@@ -1,5 +1,8 @@
 // Holds a query to a file: whether the file opens, a segment may have so many rows, and every test
 // fits a column of the file.
+
+#![tactic(auto)]
+
 ghost use Rattle.std.specs.Prelude.{◌≡◌, false};
 ghost use Rattle.basis.specs.Refusals.{first_line};
 ghost use Rattle.register.specs.declared.Shape.{Shape};
@@ -17,7 +20,7 @@ use query::{Query, Test};
 use register::{Opened, Shape};
 
 // Whether something fits, or its first refusal.
-#[derive(Drop)]
+#[derive(Clone, Copy)]
 pub enum Verdict {
     Fit,
     Unfit(Refusal),

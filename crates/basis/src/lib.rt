@@ -1,1 +1,3 @@
+#![tactic(auto)]
+
 // A theory: its definitions are in specs/ and its laws in proofs/. There is no code.

@@ -1,5 +1,8 @@
 // Codes and the bytes that hold them: what a column's width settles, cutting a code into bytes and
 // joining bytes into a code. Every other crate that looks at a slice goes through here.
+
+#![tactic(auto)]
+
 ghost use Rattle.std.specs.Prelude.{◌≡◌, ◌<◌, ◌≤◌, ◌^◌, length};
 ghost use Rattle.limits.specs.Limits.{widest};
 ghost use Rattle.codes.specs.Width.{unfit_width, slices_of, pad_of, too_large};

@@ -1,5 +1,8 @@
 // The ends of a register's file, as they stand there: the numbers of its trailer, and how far its directory is fit. The file is
 // lent as a slice of bytes, is read where it lies and is never changed.
+
+#![tactic(auto)]
+
 ghost use Rattle.std.specs.Prelude.{◌≡◌, length};
 ghost use Rattle.limits.specs.Limits.{entry_bytes, trailer_bytes};
 ghost use Rattle.directory.specs.File.{unfit_entry};
@@ -9,7 +12,7 @@ ghost use Rattle.directory.specs.Fitting.{DirectoryThere, FitUpTo};
 use limits::ENTRY_BYTES;
 
 // The numbers of a file's last 16 bytes.
-#[derive(Drop)]
+#[derive(Clone, Copy)]
 pub struct Trailer {
     pub rows: usize,
     pub columns: usize,
@@ -20,7 +23,7 @@ pub struct Trailer {
 
 // How far the directory is fit: the first unfit column, or the number of columns where there is
 // none, and how many slices the columns before it have.
-#[derive(Drop)]
+#[derive(Clone, Copy)]
 pub struct FitSoFar {
     pub place: usize,
     pub slices: usize,

@@ -1,4 +1,7 @@
 // Finds what a listing shows: the text of a query is read and held to a file, and the file is scanned, each once.
+
+#![tactic(auto)]
+
 ghost use Rattle.std.specs.Prelude.{◌≡◌};
 ghost use Rattle.finding.specs.Finding.{refused_found, FoundBy, FoundIn};
 
@@ -10,7 +13,7 @@ use text::Asked;
 
 // What a listing shows: the refusal, or, where its number is 0, the register's shape, how many rows
 // match, how many bytes each test needed, and the query. The bits of the rows stand beside it.
-#[derive(Drop)]
+#[derive(Clone, Copy)]
 pub struct Found {
     pub refusal: Refusal,
     pub shape: Shape,

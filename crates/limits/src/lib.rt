@@ -1,5 +1,6 @@
 // How large everything may be. Each limit has its one name here, as a definition in specs/ and as a constant of the code; an
 // array or a bound elsewhere is a product of these names.
+#![tactic(auto)]
 
 // A register: its rows and its columns.
 pub const MOST_ROWS: usize = 1048576;

@@ -1,4 +1,7 @@
 // The lines of a listing, each written from a place on.
+
+#![tactic(auto)]
+
 ghost use Rattle.std.specs.Prelude.{◌+◌, ◌*◌, ◌^◌, ◌<◌, ◌∷◌};
 ghost use Rattle.limits.specs.Limits.{most_columns, longest_cell, longest_line};
 ghost use Rattle.decimals.specs.Decimals.{decimal, space};

@@ -1,5 +1,8 @@
 // Lists what a query finds in a register: how many rows match, how many bytes each test needed, and
 // each row found with its codes; or why the query is refused.
+
+#![tactic(auto)]
+
 ghost use Rattle.std.specs.Prelude.{◌≡◌, length};
 ghost use Rattle.pieces.specs.Pieces.{PieceWritten};
 ghost use Rattle.listing.specs.Listing.{Listed};

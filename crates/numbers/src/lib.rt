@@ -1,4 +1,7 @@
 // Small numbers: a byte as a number, the lesser of two, and the number that bytes make.
+
+#![tactic(auto)]
+
 ghost use Rattle.std.specs.Prelude.{◌≡◌, ◌≤◌, min, length};
 ghost use Rattle.numbers.specs.OfBytes.{OfByte, OfBytes};
 

@@ -1,11 +1,14 @@
 // What is asked of a register: tests joined by "and".
+
+#![tactic(auto)]
+
 ghost use Rattle.std.specs.Prelude.{◌≡◌};
 ghost use Rattle.query.specs.Tests.{literal_of, empty_slot};
 
 use limits::MOST_TESTS;
 
 // A comparison of a code with its literal: <, <=, >, >=, =, !=.
-#[derive(Drop)]
+#[derive(Clone, Copy)]
 pub enum Comparison {
     Less(u64),
     AtMost(u64),
@@ -16,14 +19,14 @@ pub enum Comparison {
 }
 
 // A column, counted from 0, and the comparison that its codes must meet.
-#[derive(Drop)]
+#[derive(Clone, Copy)]
 pub struct Test {
     pub column: usize,
     pub comparison: Comparison,
 }
 
 // The first `count` slots hold the tests; the slots after them mean nothing.
-#[derive(Drop)]
+#[derive(Clone, Copy)]
 pub struct Query {
     pub count: usize,
     pub tests: [Test; MOST_TESTS],

@@ -1,5 +1,8 @@
 // A register's file: opening it, and what its directory says of a column. The file is lent as a
 // slice of bytes, is read where it lies and is never changed.
+
+#![tactic(auto)]
+
 ghost use Rattle.std.specs.Prelude.{◌≡◌};
 ghost use Rattle.directory.specs.File.{width_in, offset_in};
 ghost use Rattle.register.specs.Answers.{refused_with, refusal_of, shown_of};
@@ -13,14 +16,14 @@ use limits::{ENTRY_BYTES, MOST_COLUMNS, MOST_ROWS, TRAILER_BYTES};
 pub const MARK: usize = 0x314C5342;
 
 // What opening tells of a register.
-#[derive(Drop)]
+#[derive(Clone, Copy)]
 pub struct Shape {
     pub rows: usize,
     pub columns: usize,
 }
 
 // The answer to opening a file.
-#[derive(Drop)]
+#[derive(Clone, Copy)]
 pub enum Opened {
     Register(Shape),
     Refused(Refusal),

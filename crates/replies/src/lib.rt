@@ -1,4 +1,7 @@
 // Replies as arrays of numbers: number, place and need of a refusal, then the values.
+
+#![tactic(auto)]
+
 ghost use Rattle.std.specs.Prelude.{◌≡◌};
 ghost use Rattle.answers.specs.Answers as answers;
 ghost use Rattle.register.specs.Answers as register;

@@ -1,6 +1,9 @@
 // Scans a register: which rows meet every test of a query, and how many bytes each test needed. Rows
 // go by segments; a segment's slices are taken one after the other, by all tests, until none of them
 // has a row left that the next slice could decide.
+
+#![tactic(auto)]
+
 ghost use Rattle.std.specs.Prelude.{◌≡◌, ◌+◌, length, get_or};
 ghost use Rattle.limits.specs.Limits.{most_tests};
 ghost use Rattle.basis.specs.Lists.{sum, below};

@@ -1,4 +1,7 @@
 // The lines of a listing that come in runs: one for each test, one for each row found.
+
+#![tactic(auto)]
+
 ghost use Rattle.std.specs.Prelude.{[], ◌∷◌, suc, ◌+◌, ◌*◌, ◌^◌};
 ghost use Rattle.basis.specs.Lists.{those};
 ghost use Rattle.limits.specs.Limits.{most_tests, longest_line};

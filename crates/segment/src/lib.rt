@@ -1,5 +1,8 @@
 // Scans one segment of a register: which of its rows meet every test of a query, and how many bytes each
 // test needed. What the query asks of each slice is planned once for all segments.
+
+#![tactic(auto)]
+
 ghost use Rattle.std.specs.Prelude.{◌≡◌};
 ghost use Rattle.codes.specs.Bytes.{byte_of};
 ghost use Rattle.codes.specs.Pad.{high_of};

@@ -1,6 +1,9 @@
 // Row work: small functions whose result is stored without a condition, so that a loop over them
 // becomes vectors. A standing is a byte (0 equal so far, 1 less, 2 greater), and so is whether a row is
 // still in (1 or 0).
+
+#![tactic(auto)]
+
 ghost use Rattle.std.specs.Prelude.{◌≡◌, ℕ, ◌+◌, ◌*◌, ◌≤◌, ◌<◌, cond, ltb, length, get_or};
 ghost use Rattle.limits.specs.Limits.{most_tests, longest_segment, standing_places};
 ghost use Rattle.standings.specs.Standings.{stepped_row, open_row, rules_out_kept, fails_kept};
