@@ -13,14 +13,7 @@ use Rattle.basis.proofs.Runs.{within_or_past}
 use Rattle.basis.specs.Sweeps.{Swept}
 use Rattle.basis.proofs.Sweeps.{swept_nothing}
 use Rattle.basis.proofs.FrontSweeps.{swept_next, swept_from_front, all_zero}
-use Rattle.standings.proofs.in_rows.Statement.{statement}
-use Rattle.standings.proofs.in_rows.Tie as tie
-
-abbrev invariant-loop : tie.invariant-loop
-invariant-loop n inside₀ r₀ inside r = (r ≤ n) × Swept (replicate longest_segment 0) inside 0 r (λ k. 1)
-
-abbrev decreases-loop : tie.decreases-loop
-decreases-loop n inside₀ r₀ inside r = n - r
+use Rattle.standings.proofs.in_rows.Goals as goal
 
 -- ones to the front of zeros
 ones_then_zeros : (inside : List ℕ) (n k : ℕ) → Swept (replicate longest_segment 0) inside 0 n (λ k. 1) →
@@ -30,22 +23,17 @@ ones_then_zeros inside n k swept =
     (λ (past : n ≤ k). swept.behind k (omega arith) ∙ all_zero longest_segment k ∙ rw (le-ltb k n past))
     (within_or_past k n)
 
-loop-holds : tie.Need-loop-init invariant-loop decreases-loop
-loop-holds c = (omega arith, swept_nothing _ _ _)
+pub loop-r-init : goal.loop-r-init
+loop-r-init c = (omega arith, swept_nothing _ _ _)
 
-loop-again : tie.Need-loop-preserved invariant-loop decreases-loop
-loop-again c =
-    let loop = c.before.loop in
+pub loop-r-preserved : goal.loop-r-preserved
+loop-r-preserved c =
+    let loop = c.loop-r in
     (omega arith, swept_next loop.invariant.1 (omega (arith, length-replicate {A = ℕ} longest_segment 0)) (λ same. refl))
 
-returns : tie.Need-returns invariant-loop decreases-loop
+pub returns : goal.returns
 returns c =
-    let loop = c.before.loop in
-    let end : loop.r ≡ c.before.before.args.n = omega arith in
+    let loop = c.loop-r in
+    let end : loop.r ≡ c.args.n = omega arith in
     let swept = rw end at loop.invariant.1 in
     (swept.same_length, λ k. ones_then_zeros loop.inside _ k swept)
-
-pub in_rows_spec : {M : Type 1} → statement M
-in_rows_spec =
-    tie.close
-    (tie.spec invariant-loop decreases-loop loop-holds (λ c. omega arith) (λ c. omega arith) (λ c. omega arith) loop-again returns)
