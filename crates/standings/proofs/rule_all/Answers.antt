@@ -10,14 +10,14 @@ use Rattle.standings.proofs.TakenOut.{none_taken_out, one_more_takes_out}
 use Rattle.standings.proofs.rule_all.Goals as goal
 
 pub loop-t-init : goal.loop-t-init
-loop-t-init c = (omega arith, none_taken_out rules_out_kept c.args.t1 c.args.standings.now _ _)
+loop-t-init c = (omega arith, none_taken_out rules_out_kept c.args.tests c.args.standings.now _ _)
 
 pub loop-t-preserved : goal.loop-t-preserved
 loop-t-preserved c =
     let turn = c in
     let args = turn.args in
     let so_far = turn.loop-t.invariant.1 in
-    (omega arith, one_more_takes_out rules_out_kept args.t1 args.standings.now _ _ turn.loop-t.t so_far c.rule.ensures)
+    (omega arith, one_more_takes_out rules_out_kept args.tests args.standings.now _ _ turn.loop-t.t so_far c.rule.ensures)
 
 pub returns : goal.returns
 returns c =
