@@ -1,5 +1,8 @@
 // The bits of a result: the bytes that they take, the rows that they mark, how many these are, and the
 // rows found in a segment packed into them.
+
+#![tactic(auto)]
+
 ghost use Rattle.std.specs.Prelude.{◌≡◌, ◌+◌, ◌*◌, ◌≤◌, eqb, length, get_or};
 ghost use Rattle.limits.specs.Limits.{most_rows};
 ghost use Rattle.bits.specs.Bits.{bytes_for, bits_at, EightRows, OnesOfRows, BitsFit, BitsPut};

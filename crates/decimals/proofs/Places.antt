@@ -32,7 +32,8 @@ module _ (text : List ℕ) where
   byte_then at next b follows within is =
       drop-cons text at 0 within ∙ ap₂ (λ (byte place : ℕ). byte ∷ drop place text) is (sym (follows ∙ add-one at))
 
-  pub byte_stands : (at next b : ℕ) → next ≡ at + 1 → 0 < b → get_or text at 0 ≡ b → (at < length text) × (drop at text ≡ b ∷ drop next text)
+  pub byte_stands : (at next b : ℕ) → next ≡ at + 1 → 0 < b → get_or text at 0 ≡ b →
+      (at < length text) × (drop at text ≡ b ∷ drop next text)
   byte_stands at next b follows some is =
       let within = byte_within at b is some in
       (within, byte_then at next b follows within is)

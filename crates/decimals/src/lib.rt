@@ -1,5 +1,8 @@
 // Reads one decimal at a place of a text, with the byte that must follow it. The caller says how large
 // the number may be, up to the largest of 64 bits.
+
+#![tactic(auto)]
+
 ghost use Rattle.std.specs.Prelude.{◌+◌, ◌*◌, ◌≤◌, ◌≡◌, leb, length, get_or};
 ghost use Rattle.decimals.specs.Reading.{ended_by, NumberAt, FirstDigit};
 

@@ -1,6 +1,9 @@
 // Bytes of a long listing, one after the other, of which a lent buffer takes a piece: those at places
 // from a first one on, as many as it has room for. A step is told the place of its first byte and
 // answers the place behind its last.
+
+#![tactic(auto)]
+
 ghost use Rattle.std.specs.Prelude.{◌+◌, ◌^◌, ◌<◌, [], ◌∷◌};
 ghost use Rattle.limits.specs.Limits.{longest_decimal};
 ghost use Rattle.decimals.specs.Decimals.{digit, decimal};

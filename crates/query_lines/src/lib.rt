@@ -1,4 +1,7 @@
 // The lines of a query's text, read from a place on: the first, with the segment size, and those of tests.
+
+#![tactic(auto)]
+
 ghost use Rattle.std.specs.Prelude.{◌≡◌, ◌+◌, ◌<◌, ◌≤◌, eqb, length, get_or};
 ghost use Rattle.query.specs.Tests.{literal_of};
 ghost use Rattle.query_lines.specs.Lines.{segment_word, sign_of};

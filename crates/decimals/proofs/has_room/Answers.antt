@@ -5,12 +5,11 @@ use mathlib.Core.Path.{sym, ◌∙◌}
 use mathlib.Core.Logic.{⊎_elim}
 use borrow.Author.Tests.{le-leb, lt-leb}
 use Rattle.basis.proofs.Runs.{within_or_past}
-use Rattle.decimals.proofs.has_room.Statement.{statement}
-use Rattle.decimals.proofs.has_room.Tie as tie
+use Rattle.decimals.proofs.has_room.Goals as goal
 
-returns : tie.Need-returns
-returns c =
-    let given = c.before.args in
+pub returns-then-number-most : goal.returns-then-number-most
+returns-then-number-most c =
+    let given = c.args in
     let left = given.most - given.number * 10 in
     let longer = given.number * 10 + given.digit in
     ⊎_elim
@@ -18,10 +17,7 @@ returns c =
     (λ (fits : given.digit ≤ left). le-leb _ _ fits ∙ sym (le-leb longer given.most (omega arith)))
     (within_or_past left given.digit)
 
-returns-2 : tie.Need-returns-2
-returns-2 c =
-    let given = c.before.args in
-    lt-leb _ _ c.if1.false ∙ sym (lt-leb (given.number * 10 + given.digit) given.most (omega arith))
-
-pub has_room_spec : {M : Type 1} → statement M
-has_room_spec = tie.close (tie.spec (λ c. omega arith) (λ c. omega arith) returns returns-2)
+pub returns-else-number-most : goal.returns-else-number-most
+returns-else-number-most c =
+    let given = c.args in
+    lt-leb _ _ c.if-number-most.false ∙ sym (lt-leb (given.number * 10 + given.digit) given.most (omega arith))
