@@ -1,4 +1,7 @@
 // The code of a row in a column, its bytes gathered from the slices of a file that is read where it lies.
+
+#![tactic(auto)]
+
 ghost use Rattle.std.specs.Prelude.{◌≡◌, ◌<◌, length, get_or};
 ghost use Rattle.codes.specs.Bytes.{joined};
 ghost use Rattle.register.specs.Cells.{code_at};

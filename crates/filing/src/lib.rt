@@ -1,4 +1,7 @@
 // The parts of a register's file, written to the front of a lent buffer: the body, then the directory, then the trailer.
+
+#![tactic(auto)]
+
 ghost use Rattle.std.specs.Prelude.{◌≡◌, ◌+◌, ◌≤◌, length};
 ghost use Rattle.basis.specs.Buffers.{laid};
 ghost use Rattle.basis.specs.Numbers.{to_little};

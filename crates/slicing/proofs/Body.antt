@@ -19,7 +19,8 @@ use Rattle.slicing.proofs.Joined.{joined_part}
 
 module _ (rows : ℕ) (widths codes : List ℕ) (column slice : ℕ) where
   pub slice_in_body : column < length widths → slice < slices_of (width_of widths column) →
-      PartAt (body_of rows widths codes) (bytes_before rows (width_of widths) column + rows * slice) (slice_of rows widths codes column slice)
+      PartAt (body_of rows widths codes) (bytes_before rows (width_of widths) column + rows * slice)
+      (slice_of rows widths codes column slice)
   unfolding body_of column_of
   slice_in_body column_there slice-there =
       let before-column = length_columns rows widths codes column in

@@ -1,4 +1,7 @@
 // The body of a file: slices made of codes that stand row after row, by blocks of rows.
+
+#![tactic(auto)]
+
 ghost use Rattle.std.specs.Prelude.{◌≡◌, map, ◌+◌, ◌/◌, ◌%◌, ◌^◌, min, length, get_or};
 ghost use Rattle.limits.specs.Limits.{block_rows};
 ghost use Rattle.basis.specs.Buffers.{laid};

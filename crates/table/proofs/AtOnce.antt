@@ -45,7 +45,8 @@ module _ (codes : List ℕ) (at : ℕ) where
       here : get_or (set after n value) n 0 ≡ value
       here = get_or-set_same after n value 0 room
 
-      rises : (place : ℕ) → (place < n) ⊎ (n ≤ place) → (n < place) ⊎ (place ≤ n) → get_or after place 0 ≤ get_or (set after n value) place 0
+      rises : (place : ℕ) → (place < n) ⊎ (n ≤ place) → (n < place) ⊎ (place ≤ n) →
+          get_or after place 0 ≤ get_or (set after n value) place 0
       rises place (inl sooner) either = rw (get_or-set_other after n place value 0 (omega arith)) (omega arith)
       rises place (inr reached) (inl later) = rw (get_or-set_other after n place value 0 (omega arith)) (omega arith)
       rises place (inr reached) (inr early) =

@@ -1,5 +1,8 @@
 // Widths that fit, and codes held to the widths of their columns: many codes at once, and one by one
 // only where some are too large.
+
+#![tactic(auto)]
+
 ghost use Rattle.std.specs.Prelude.{◌≡◌, not, ◌+◌, ◌^◌, ltb, length, get_or};
 ghost use Rattle.basis.specs.Places.{first_place};
 ghost use Rattle.table.specs.Table.{width_of, FitWidths, FullTable, first_unfit_width, first_too_large};

@@ -3,7 +3,6 @@ use Prim.Native.Nat.{ℕ, ◌+◌, ◌≤◌}
 use native.Mathlib.Omega.{arith}
 use mathlib.Core.Path.{◌≡◌, ap, ◌∙◌}
 use mathlib.Core.List.{List, ◌++◌, append_assoc}
-use borrow.Author.Rules.{rules}
 use lib.ListN.{length, length-append}
 use Rattle.limits.specs.Limits.{trailer_bytes}
 use Rattle.basis.specs.Buffers.{laid}
@@ -12,8 +11,7 @@ use Rattle.basis.proofs.Buffers.{Filled, filled_at_once, filled_more}
 use Rattle.basis.proofs.Numbers.{length_to_little, to_little_little}
 use Rattle.directory.specs.File.{mark_bytes, mark}
 use Rattle.filing.specs.Layout.{trailer_with}
-use Rattle.filing.proofs.write_trailer.Statement.{statement}
-use Rattle.filing.proofs.write_trailer.Tie as tie
+use Rattle.filing.proofs.write_trailer.Goals as goal
 
 -- the mark's number in bytes
 mark_written : to_little 4 mark ≡ mark_bytes
@@ -50,30 +48,8 @@ module _ (out : List ℕ) (at : ℕ) where
       let upto-5 = next (((a ++ b) ++ c) ++ d) 12 4 mark (simp (length-append, length_to_little)) (omega arith) upto-4 said-5 in
       rw mark_written at (upto-5.filled ∙ ap (laid out at) (regroup a b c d (to_little 4 mark)))
 
-returns : tie.Need-returns
+pub returns : goal.returns
 unfolding mark little
 returns c =
-    let fifth = c.before.before in
-    let fourth = fifth.before.before.before.before in
-    let third = fourth.before.before.before.before in
-    let second = third.before.before.before.before in
-    let first = second.before.before.before.before in
-    let start = first.before.before.before in
-    five_numbers _ _ _ _ _ start.requires first.write-number.ensures second.write-number2.ensures third.write-number3.ensures
-    fourth.write-number4.ensures fifth.write-number5.ensures
-
-pub write_trailer_spec : {M : Type 1} → statement M
-write_trailer_spec =
-    tie.close
-    (tie.spec
-    (λ c κs. search rules)
-    (λ c. search rules)
-    (λ c κs. search rules)
-    (λ c. search rules)
-    (λ c κs. search rules)
-    (λ c. search rules)
-    (λ c κs. search rules)
-    (λ c. search rules)
-    (λ c κs. search rules)
-    (λ c. search rules)
-    returns)
+    five_numbers _ _ _ _ _ c.requires c.write_number.ensures c.write_number-2.ensures c.write_number-3.ensures
+    c.write_number-4.ensures c.write_number-5.ensures

@@ -1,0 +1,17 @@
+-- What the loop of `write_run` keeps, and what each turn makes less.
+use Prim.Native.Nat.{ℕ, ◌-◌, ◌/◌, ◌%◌, ◌^◌, ◌≤◌}
+use mathlib.Core.List.{List, map}
+use lib.ListN.{get_or}
+use Rattle.basis.specs.Lists.{below}
+use Rattle.basis.proofs.Buffers.{Filled}
+use Rattle.slicing.proofs.write_run.Given as goal
+
+-- the byte of a number
+abbrev pub byte_in : List ℕ → ℕ → ℕ → ℕ
+byte_in stored shift k = get_or stored k 0 / 2 ^ shift % 256
+
+abbrev pub invariant-loop-k : goal.invariant-loop-k
+invariant-loop-k l = (l.k ≤ l.n) × Filled l.initial.out l.at (map (byte_in l.stored l.shift) (below l.k)) l.out
+
+abbrev pub decreases-loop-k : goal.decreases-loop-k
+decreases-loop-k l = l.n - l.k
