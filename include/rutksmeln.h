@@ -8,7 +8,7 @@
 // what the text of a query asks. examples/c/recall.c is a whole program.
 //
 // LINKING
-// The calls are in target/staticlib/libexports.a, which `rt staticlib exports` writes:
+// The calls are in target/staticlib/libexports.a, which `./archive` writes:
 //     gcc -Iinclude program.c target/staticlib/libexports.a
 // It is made for Linux on plain x86-64, with the calling convention of System V. It needs memcpy and memset, and nothing else. It is
 // position independent, so that it may also become a shared object:

@@ -10,7 +10,7 @@ fn main() {
     println!("cargo:rerun-if-changed={}", archive.display());
     if !archive.is_file() {
         eprintln!("There is no {}.", archive.display());
-        eprintln!("Run `rt staticlib exports` in {},", repository().display());
+        eprintln!("Run `./archive` in {},", repository().display());
         eprintln!("or name the folder of the archive in RUTKSMELN_LIB.");
         process::exit(1);
     }

@@ -1,6 +1,6 @@
-# The programs and the archive are for x86-64. The kit proves on Arm too; on such a machine they are run by an emulator, and C, C++ and Rust
-# are compiled for x86-64. This file knows how, so that no other does. Sourced by scripts, in the repository's top folder.
-#   runnable PROGRAM    prints what to run in place of a program of target/bin, which needs nothing beside the kit, or of one compiled here
+# The programs and the archive are for x86-64. On an Arm machine they are run by an emulator, and C, C++ and Rust are compiled for x86-64.
+# This file knows how, so that no other does. Sourced by scripts, in the repository's top folder.
+#   runnable PROGRAM    prints what to run in place of a program that rt built, or of one compiled here
 #   missing_packages    prints the packages of Debian that all tests need and this machine lacks
 #   CC, CXX, CARGO      what compiles C, C++ and Rust; cargo puts what it builds below $BUILT
 
@@ -20,11 +20,11 @@ else
     # A script in target/run. An emulator takes the numbers of closed descriptors for its own files, so these are opened the wrong way round:
     # a read or write of them fails as one of a closed descriptor does.
     runnable() {
-        local program script kit words
+        local program script libraries words
         program=$(realpath "$1") script=target/run/$(basename "$1")
-        kit=$(dirname "$(dirname "$(rt doc)")")/on/$(uname -m)/toolchain
+        libraries=$(dirname "$(rt doc)")/toolchain/lib
         case $1 in
-        target/bin/*) words=("$kit/bin/qemu-x86_64" "$kit/lib/ld-linux-x86-64.so.2" --library-path "$kit/lib" "$program") ;;
+        crates/*) words=(qemu-x86_64-static "$libraries/ld-linux-x86-64.so.2" --library-path "$libraries" "$program") ;;
         *) words=(qemu-x86_64-static "$program") ;;
         esac
         mkdir -p target/run
