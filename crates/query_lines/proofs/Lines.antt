@@ -110,7 +110,8 @@ lines_one_more (first ∷ tests) test =
     ap (λ (lines : List ℕ). test_text first ++ lines) (lines_one_more tests test)
     ∙ sym (append_assoc (test_text first) (flatten (map test_text tests)) (test_text test))
 
-pub text_one_more : (size : ℕ) (tests : List Test) (test : Test) → text_of size (tests ++ (test ∷ [])) ≡ text_of size tests ++ test_text test
+pub text_one_more : (size : ℕ) (tests : List Test) (test : Test) →
+    text_of size (tests ++ (test ∷ [])) ≡ text_of size tests ++ test_text test
 unfolding text_of
 text_one_more size tests test =
     ap (λ (lines : List ℕ). segment_text size ++ lines) (lines_one_more tests test)

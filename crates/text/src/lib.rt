@@ -1,5 +1,8 @@
 // Reads the text of a query: a line with the segment size and a line for each test. The text is
 // gone through once, from its first byte to its last.
+
+#![tactic(auto)]
+
 ghost use Rattle.std.specs.Prelude.{◌≡◌};
 ghost use Rattle.text.specs.Reading.{Reads, refused_with};
 
