@@ -36,7 +36,9 @@ codes_fit rows widths codes few full fit =
     record {
       few_rows = few;
       full = full;
-      each = λ i h. none_before_first (λ j. too_large (width_of widths (j % length widths)) (get_or codes j 0)) (length codes) i (omega arith);
+      each =
+          λ i h. none_before_first (λ j. too_large (width_of widths (j % length widths)) (get_or codes j 0)) (length codes) i
+          (omega arith);
     }
 
 module _ (rows : ℕ) (widths codes : List ℕ) (room : ℕ) where

@@ -1,5 +1,8 @@
 // Writes a register's file into a lent buffer: rows of codes become slices, one after the other,
 // and the directory and the trailer follow. Nothing is stored besides.
+
+#![tactic(auto)]
+
 ghost use Rattle.std.specs.Prelude.{◌≡◌, length};
 ghost use Rattle.answers.specs.Answers.{shown_of};
 ghost use Rattle.writer.specs.Writing.{written_of, shown_for, left_in};
