@@ -1,0 +1,12 @@
+-- `lines::put_cell` meets its contract: a space, and the code behind it. Assumes nothing.
+use native.Mathlib.Omega.{arith}
+use borrow.Author.Rules.{rules}
+use Rattle.pieces.proofs.Writing.{written_then}
+use Rattle.lines.proofs.put_cell.Goals as goal
+
+pub returns : goal.returns
+returns c =
+    record {
+      wrote = written_then c.put-next.ensures c.put_decimal.ensures.wrote;
+      within = omega (arith, c.put_decimal.ensures.within, c.put-next.ensures.behind);
+    }

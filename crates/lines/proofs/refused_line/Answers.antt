@@ -1,0 +1,11 @@
+-- `lines::refused_line` meets its contract: its words and numbers, one behind the other. Assumes nothing.
+use borrow.Author.Rules.{rules}
+use Rattle.lines.specs.Lines.{refused_line}
+use Rattle.pieces.proofs.Writing.{written_then}
+use Rattle.lines.proofs.refused_line.Goals as goal
+
+pub returns : goal.returns
+unfolding refused_line
+returns c =
+    let place = written_then c.put-next.ensures (written_then c.put_decimal-next-2.ensures.wrote c.put.ensures) in
+    written_then c.put_word-next.ensures (written_then c.put_decimal-next.ensures.wrote place)
