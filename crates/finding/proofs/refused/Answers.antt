@@ -1,0 +1,6 @@
+-- `finding::refused` meets its contract: sixteen empty slots. Assumes nothing.
+use borrow.Author.Rules.{rules}
+use Rattle.finding.proofs.refused.Goals as goal
+
+pub returns : goal.returns
+returns c = rw c.empty_slot.ensures

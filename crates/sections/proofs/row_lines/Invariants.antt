@@ -1,0 +1,20 @@
+-- What the loop of `row_lines` keeps, and what each turn makes less.
+use Prim.Native.Nat.{◌+◌, ◌-◌, ◌*◌, ◌≤◌}
+use native.Mathlib.Omega.{arith}
+use mathlib.Core.Path.{◌≡◌}
+use mathlib.Core.List.{flatten}
+use Rattle.limits.specs.Limits.{longest_line}
+use Rattle.bits.specs.Marked.{marked_below}
+use Rattle.pieces.specs.Pieces.{Wrote}
+use Rattle.sections.specs.Sections.{row_lines}
+use Rattle.pieces.proofs.Writing.{same_room, wrote_nothing, written_then}
+use Rattle.sections.proofs.OneMore.{row_more}
+use Rattle.register.proofs.Fit.{few_rows_as_opened}
+use Rattle.sections.proofs.row_lines.Given as goal
+
+abbrev pub invariant-loop-row : goal.invariant-loop-row
+invariant-loop-row l =
+    (l.row ≤ l.rows) × ((l.next ≤ l.at + longest_line * l.row) × Wrote l.from l.at (row_lines l.file (marked_below l.row l.bits)) l.initial.out l.out l.next)
+
+abbrev pub decreases-loop-row : goal.decreases-loop-row
+decreases-loop-row l = l.rows - l.row
