@@ -11,34 +11,34 @@ use Rattle.bits.specs.Bits.{bytes_for}
 use Rattle.finding.specs.Finding.{refused_found}
 use Rattle.finding.proofs.Outcomes.{not_held, enough, scanned_rows}
 use Rattle.finding.proofs.find_rows.Goals as goal
-use Rattle.finding.proofs.find_rows.Goals.{After-scan_rows-arg-1, In-Register}
+use Rattle.finding.proofs.find_rows.Goals.{In-Register}
 
 told : (c : In-Register) →
     let a = c.args in
-    asked_of a.file.now a.asked.size a.asked.query ≡ Register c.held.given.0.0
-told c = sym c.ask-held.ensures.0 ∙ c.held.given.1
+    asked_of a.file.now a.asked.size a.asked.query ≡ Register c.in-Register.shape
+told c = sym c.ask-held.ensures.answer ∙ c.in-Register.is
 
 -- the bits that are lent to the scan are as long as any register needs
-as_long : (c : After-scan_rows-arg-1) → length c.args.bits.now ≡ bytes_for most_rows
+as_long : (c : In-Register) → length c.args.bits.now ≡ bytes_for most_rows
 unfolding bytes_for
 as_long c = search rules
 
 pub returns-in_default : goal.returns-in_default
 returns-in_default c =
-    let unfit = c.enum_told.given.1 in
-    not_held _ _ c.requires _ (sym c.ask-held.ensures.0 ∙ unfit)
+    let unfit = c.in_default.is in
+    not_held _ _ c.requires _ (sym c.ask-held.ensures.answer ∙ unfit)
     (c.refused.ensures ∙ ap refused_found (c.refusal_of.ensures ∙ ap refusal_of unfit))
 
 pub scan_rows-scanned-requires : goal.scan_rows-scanned-requires
 scan_rows-scanned-requires c =
-    let fit = c.ask-held.ensures.1 c.held.given.0.0 c.held.given.1 in
+    let fit = c.ask-held.ensures.fit c.in-Register.shape c.in-Register.is in
     record {
       judged = fit.0;
       sized = fit.1;
-      room = rw (as_long c) (enough _ c.args.asked c.requires _ (told (goal.at.scan_rows-scanned-requires c).In-Register));
+      room = rw (as_long (goal.at.scan_rows-scanned-requires c).In-Register) (enough _ c.args.asked c.requires _ (told (goal.at.scan_rows-scanned-requires c).In-Register));
     }
 
 pub returns : goal.returns
 returns c =
-    scanned_rows _ _ c.requires _ (told (goal.at.returns c).In-Register) _ _ _ c.scan_rows-scanned.ensures.0 c.scan_rows-scanned.ensures.1
-    (as_long (goal.at.returns c).After-scan_rows-arg-1)
+    scanned_rows _ _ c.requires _ (told (goal.at.returns c).In-Register) _ _ _ c.scan_rows-scanned.ensures.answer c.scan_rows-scanned.ensures.left
+    (as_long (goal.at.returns c).In-Register)
