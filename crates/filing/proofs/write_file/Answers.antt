@@ -36,6 +36,7 @@ parts_are_file rows widths codes out body end room said-1 said-2 said-3 =
     let upto-3 = filled_more out 0 (front ++ middle) (body + entry_bytes * length widths) last upto-2 (omega arith) (omega arith) said-3 in
     rw end at (upto-3.filled ∙ ap (laid out 0) (append_assoc front middle last))
 
+-- there is room for all of them
 room : (c : After-body_length-body) →
     c.body_length-body.result + entry_bytes * length c.args.widths.now + trailer_bytes ≤ length c.args.out.now
 unfolding file_length
