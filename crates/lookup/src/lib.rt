@@ -1,4 +1,7 @@
 // Looks codes up: a column and a list of rows, in any order and with repeats, give one code each.
+
+#![tactic(auto)]
+
 ghost use Rattle.std.specs.Prelude.{◌≡◌, length};
 ghost use Rattle.basis.specs.Buffers.{laid};
 ghost use Rattle.answers.specs.Answers.{shown_of};
