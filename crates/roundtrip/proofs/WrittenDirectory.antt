@@ -71,7 +71,8 @@ module _ (rows : ℕ) (widths codes : List ℕ) (fit_widths : FitWidths widths) 
       slices_before (width_in (file_of rows widths codes)) column ≡ slices_before (width_of widths) column
   unfolding slices_before
   written_slices column within =
-      sum_each_same _ _ (below column) (λ earlier m. let h = in_below column earlier m in ap slices_of (written_width earlier (omega arith)))
+      sum_each_same _ _ (below column)
+      (λ earlier m. let h = in_below column earlier m in ap slices_of (written_width earlier (omega arith)))
 
   pub written_fit : (column : ℕ) → column < length widths → unfit_column (file_of rows widths codes) column ≡ false
   unfolding unfit_column
