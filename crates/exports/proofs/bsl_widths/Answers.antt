@@ -1,0 +1,9 @@
+-- `exports::bsl_widths` meets its contract: the call's own promise, as it is shown. Assumes nothing.
+use mathlib.Core.Path.{◌∙◌}
+use borrow.Author.Rules.{rules}
+use Rattle.exports.proofs.bsl_widths.Goals as goal
+
+pub returns : goal.returns
+returns c =
+    let told = c.widths-measured.ensures in
+    record { reply = c.answer_reply.ensures ∙ told.shown; left = told.left }
