@@ -11,7 +11,7 @@ use mathlib.Core.Bool.{Bool, cond}
 use lib.Dec.{T, eqb, eqb→eq}
 use lib.ListN.{length, get_or, take}
 use lib.Seq.{take_all}
-use Rattle.basis.specs.Lists.{all, below}
+use Rattle.basis.specs.Lists.{below}
 use Rattle.basis.proofs.Truth.{at_most_one}
 use Rattle.basis.proofs.Tables.{every_entry, entry_passes}
 use Rattle.basis.proofs.Lists.{sum_at_most}

@@ -1,4 +1,7 @@
 // The table of positions, and the rows of set bits written by it, rising.
+
+#![tactic(auto)]
+
 mod table;
 
 ghost use Rattle.std.specs.Prelude.{◌≡◌, ◌*◌, length, get_or, map};

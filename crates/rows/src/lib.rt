@@ -1,4 +1,7 @@
 // Turns the bits of a result into the list of the rows whose bit is set, rising.
+
+#![tactic(auto)]
+
 ghost use Rattle.std.specs.Prelude.{◌≡◌, length};
 ghost use Rattle.answers.specs.Answers.{shown_of};
 ghost use Rattle.rows.specs.RowList.{listed_of, shown_for, left_in};

@@ -33,8 +33,8 @@ pub record ReadUpTo (text : List ℕ) (size at count : ℕ) (slots : List Test) 
   pub few : count ≤ at
   pub within : at ≤ length text
 
-pub first_line_lem : (text : List ℕ) (size : ℕ) {at : ℕ} {slots : List Test} → SegmentAt text (Value size at) → slots ≡ slots_of empty_slot [] →
-    ReadUpTo text size at 0 slots
+pub first_line_lem : (text : List ℕ) (size : ℕ) {at : ℕ} {slots : List Test} → SegmentAt text (Value size at) →
+    slots ≡ slots_of empty_slot [] → ReadUpTo text size at 0 slots
 unfolding text_of flatten
 first_line_lem text size line empty = record {
   tests = [];

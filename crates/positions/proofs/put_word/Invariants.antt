@@ -1,0 +1,9 @@
+-- What the loop of `put_word` keeps, and what each turn makes less.
+use Rattle.positions.proofs.ByteOfWord.{Passed}
+use Rattle.positions.proofs.put_word.Given as goal
+
+abbrev pub invariant-loop-rest : goal.invariant-loop-rest
+invariant-loop-rest l = Passed l.word l.first l.at l.all l.initial.out l.out l.next l.rest l.passed
+
+abbrev pub decreases-loop-rest : goal.decreases-loop-rest
+decreases-loop-rest l = l.rest
