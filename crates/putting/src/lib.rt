@@ -5,13 +5,20 @@
 ghost use Rattle.std.specs.Prelude.{◌≡◌, ◌+◌, ◌≤◌, ◌↔◌, length, IsNone};
 ghost use Rattle.putting.specs.Putting.{put_count, put_for};
 
+use std::fs::OpenFile;
 use std::io::{ErrorKind, Write};
-use std::rt::Clock;
+use std::rt::{Clock, Files};
 use std::time::Duration;
-use std::{io, thread};
+use std::{fs, io, str, thread};
 
 // How often a reader is waited for, a moment each time: longer than any machine lasts, so that the loop has an end.
 const MOST_WAITS: u64 = 18446744073709551615;
+
+// Bytes of the words for an error.
+const MOST_WORDS: usize = 128;
+
+// Standard output by its name.
+const OUTPUT: &str = "/dev/stdout";
 
 // What one write did: it took so many bytes; it can take none yet; or it failed.
 #[derive(Clone, Copy)]
@@ -102,4 +109,44 @@ fn put_for(error: io::Error) -> Put
 // Waits two milliseconds.
 fn pause(clock: &impl Clock) {
     thread::sleep(clock, Duration::from_millis(2));
+}
+
+// Says on standard error what failed, as the caller names it, and why. Where that cannot be written there is nowhere to say it.
+pub fn fail<R: Eprint>(rt: &R, what: &str, error: &io::Error) {
+    let mut text = [0u8; MOST_WORDS];
+    let words = words_of(error, &mut text);
+    let _ = eprintln!(rt; "{what}: {words}");
+}
+
+// The system's words for an error, by way of what is lent for them, without the number that std puts behind.
+fn words_of<'a>(error: &io::Error, text: &'a mut [u8; MOST_WORDS]) -> &'a str {
+    let mut rest: &mut [u8] = text;
+    let room = rest.len();
+    let _ = write!(rest, "{error}");
+    let made = room.saturating_sub(rest.len());
+    let Ok(words) = str::from_utf8(&text[..made]) else {
+        return "";
+    };
+    match words.split_once(" (os error ") {
+        Some((front, _)) => front,
+        None => words,
+    }
+}
+
+// What a disk elsewhere could not take may show only once all is written. Nothing in std closes standard output and says how that
+// went. So where it is a file of a disk, what was written is sent to that disk now, by the file's own name, which answers the same.
+// Where it is none, or cannot be opened by that name, there is nothing to ask.
+pub fn saved<R: Files>(files: &R) -> io::Result<()> {
+    let Ok(about) = fs::metadata(files, OUTPUT) else {
+        return Ok(());
+    };
+    if !about.is_file() {
+        return Ok(());
+    }
+    let mut how = fs::OpenOptions::new();
+    how.write(true);
+    let Ok(file) = how.open(files, OUTPUT) else {
+        return Ok(());
+    };
+    file.sync_data()
 }
