@@ -1,4 +1,4 @@
-// The calls for C and Rust. A slice passes as a pointer and a length, a reply as a pointer to so many
+// The calls for C and Rust, which the crate exports_c gives their C names. A reply is so many
 // numbers of 64 bits: number, place and need of a refusal, 0 where there is none, then the values, 0
 // where there is one. A query passes as its text.
 ghost use Rattle.std.specs.Prelude.{◌≡◌, length};
@@ -14,8 +14,7 @@ use replies::{answer_reply, opened_reply, read_reply, scanned_reply};
 use scan::Scanned;
 
 // Opens a file. Values: rows, columns.
-#[unsafe(no_mangle)]
-pub extern "C" fn bsl_open(file: &[u8], reply: &mut [u64; OPEN_NUMBERS])
+pub fn bsl_open(file: &[u8], reply: &mut [u64; OPEN_NUMBERS])
     ensures { reply.new ≡ opening.shown_for file.now }
 {
     let opened = register::open(file);
@@ -23,8 +22,7 @@ pub extern "C" fn bsl_open(file: &[u8], reply: &mut [u64; OPEN_NUMBERS])
 }
 
 // Answers the width of every column. Value: how many columns.
-#[unsafe(no_mangle)]
-pub extern "C" fn bsl_widths(file: &[u8], out: &mut [u8], reply: &mut [u64; ANSWER_NUMBERS])
+pub fn bsl_widths(file: &[u8], out: &mut [u8], reply: &mut [u64; ANSWER_NUMBERS])
     ensures reply { reply.new ≡ measuring.shown_for file.now (length out.old) }
     ensures left { out.new ≡ measuring.left_in file.now out.old }
 {
@@ -33,8 +31,7 @@ pub extern "C" fn bsl_widths(file: &[u8], out: &mut [u8], reply: &mut [u64; ANSW
 }
 
 // Writes a register's file. Value: its bytes.
-#[unsafe(no_mangle)]
-pub extern "C" fn bsl_write(
+pub fn bsl_write(
     rows: usize,
     widths: &[u8],
     codes: &[u64],
@@ -50,8 +47,7 @@ pub extern "C" fn bsl_write(
 }
 
 // Reads a query's text. Values: size, count, then column, comparison and literal of each of 16 slots.
-#[unsafe(no_mangle)]
-pub extern "C" fn bsl_read(text: &[u8], reply: &mut [u64; READ_NUMBERS])
+pub fn bsl_read(text: &[u8], reply: &mut [u64; READ_NUMBERS])
     ensures { ReadReplied text.now reply.new }
 {
     let asked = text::read(text);
@@ -62,8 +58,7 @@ pub extern "C" fn bsl_read(text: &[u8], reply: &mut [u64; READ_NUMBERS])
 }
 
 // Scans a file by a query's text. Values: matches, total, then 16 counts.
-#[unsafe(no_mangle)]
-pub extern "C" fn bsl_scan(
+pub fn bsl_scan(
     file: &[u8],
     text: &[u8],
     out: &mut [u8],
@@ -88,8 +83,7 @@ pub extern "C" fn bsl_scan(
 }
 
 // Lists the rows whose bit is set. Value: how many.
-#[unsafe(no_mangle)]
-pub extern "C" fn bsl_list(
+pub fn bsl_list(
     rows: usize,
     bits: &[u8],
     out: &mut [u32],
@@ -103,8 +97,7 @@ pub extern "C" fn bsl_list(
 }
 
 // Looks up the codes of rows in a column. Value: how many.
-#[unsafe(no_mangle)]
-pub extern "C" fn bsl_lookup(
+pub fn bsl_lookup(
     file: &[u8],
     column: usize,
     rows: &[u32],

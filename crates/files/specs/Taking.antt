@@ -1,6 +1,6 @@
 -- What reading an input whole answers, and what it leaves of the lent buffer. Which bytes the operating system puts there
--- is not said: no contract of a call of C's says it. Assumes nothing.
-use Rattle.std.specs.Prelude.{ℕ, ◌≤◌, min, ◌≡◌, List, length, ℤ, pos, negsuc}
+-- is not said: no contract of std's says it. Assumes nothing.
+use Rattle.std.specs.Prelude.{ℕ, ◌≤◌, min, ◌≡◌, List, length, Result, Ok, Err}
 use Rattle.files.specs.declared.Taken.{Taken}
 use Rattle.files.specs.declared.Taken.TheVariants.{Bytes, Unreadable}
 
@@ -14,17 +14,17 @@ abbrev pub count_of : Taken → ℕ
 count_of (Bytes n) = n
 count_of Unreadable = 0
 
--- what one read says, of so many bytes at most: how many came, or, below 0, that it failed
-abbrev pub taken_by : ℤ → ℕ → Taken
-taken_by (pos n) most = Bytes (min n most)
-taken_by (negsuc n) most = Unreadable
+-- what one read says, of so many bytes at most: how many came, or that it failed
+abbrev pub taken_by : {E : Type 0} → Result ℕ E → ℕ → Taken
+taken_by (Ok n) most = Bytes (min n most)
+taken_by (Err e) most = Unreadable
 
 -- the buffer is as long as it was, and the bytes that the answer counts lie within it
 pub record TakenInto (before after : List ℕ) (taken : Taken) : Type 0 where
   pub same_length : length after ≡ length before
   pub within : count_of taken ≤ length after
 
--- what opening answered is no descriptor
-abbrev pub NotOpened : ℤ → Type 0
-NotOpened (pos n) = ⊥
-NotOpened (negsuc n) = Unit {0}
+-- what opening answered is no file
+abbrev pub NotOpened : {A E : Type 0} → Result A E → Type 0
+NotOpened (Ok file) = ⊥
+NotOpened (Err e) = Unit {0}

@@ -1,10 +1,16 @@
-// An input read whole into a lent buffer, a descriptor's or a file's by its name. The contracts say how much of the buffer an
+// An input read whole into a lent buffer, a reader's or a file's by its name. The contracts say how much of the buffer an
 // answer counts. Which bytes stand there is the operating system's word, and is not promised.
+#![tactic(auto)]
+
 ghost use Rattle.std.specs.Prelude.{◌≡◌, ◌+◌, ◌≤◌, eqb, length};
 ghost use Rattle.files.specs.Taking.{number_of, count_of, taken_by, TakenInto, NotOpened};
 
+use std::io::Read;
+use std::rt::Files;
+use std::{fs, io};
+
 // How many bytes were put at the start of the buffer, or that a read failed.
-#[derive(Drop)]
+#[derive(Clone, Copy)]
 pub enum Taken {
     Bytes(usize),
     Unreadable,
@@ -32,12 +38,12 @@ pub fn bytes_of(taken: Taken) -> usize
 
 // Reads until the input ends or the buffer is full. A full buffer may not hold the whole input, so
 // a caller lends one byte more than it accepts. It ends since each turn leaves less to fill.
-pub fn take_all(fd: i32, buffer: &mut [u8]) -> Taken
+pub fn take_all<R: Read>(reader: &mut R, buffer: &mut [u8]) -> Taken
     ensures { TakenInto buffer.old buffer.new result }
 {
     let mut done: usize = 0;
     while done < buffer.len() {
-        let taken = take_more(fd, buffer, done);
+        let taken = take_more(reader, buffer, done);
         let Taken::Bytes(more) = taken else {
             return taken;
         };
@@ -51,46 +57,43 @@ pub fn take_all(fd: i32, buffer: &mut [u8]) -> Taken
 
 // Reads the file of this name as take_all does. One that cannot be opened is unreadable, and so is
 // a folder, which opens and whose first read fails.
-pub fn read_file(path: &[u8], buffer: &mut [u8]) -> Taken
+pub fn read_file<R: Files>(files: &R, path: &str, buffer: &mut [u8]) -> Taken
     ensures { TakenInto buffer.old buffer.new result }
 {
-    let fd = os::open_read(path);
-    take_opened(fd, buffer)
+    let opened = fs::open(files, path);
+    take_opened(opened, buffer)
 }
 
-// Reads what opening answered, a descriptor or a number below 0, and closes it. That closing what was only read failed says
+// Reads what opening answered, a file or an error, and closes it. That closing what was only read failed says
 // nothing of what was read.
-fn take_opened(fd: i32, buffer: &mut [u8]) -> Taken
+fn take_opened<F: Read + Drop>(opened: io::Result<F>, buffer: &mut [u8]) -> Taken
     ensures taken { TakenInto buffer.old buffer.new result }
-    ensures unopened { NotOpened fd → result ≡ Taken.Unreadable }
+    ensures unopened { NotOpened opened → result ≡ Taken.Unreadable }
 {
-    if fd < 0 {
+    let Ok(mut file) = opened else {
         return Taken::Unreadable;
-    }
-    let taken = take_all(fd, buffer);
-    libc::close(fd);
-    taken
+    };
+    take_all(&mut file, buffer)
 }
 
 // One read into the buffer from a place on. No bytes: the input has ended. A read that a signal
 // interrupts counts as one that failed.
-fn take_more(fd: i32, buffer: &mut [u8], done: usize) -> Taken
+fn take_more<R: Read>(reader: &mut R, buffer: &mut [u8], done: usize) -> Taken
     requires { done ≤ length buffer.old }
     ensures { done + count_of result ≤ length buffer.old }
 {
     let rest = &mut buffer[done..];
-    let got = libc::read(fd, rest);
+    let got = reader.read(rest);
     taken_by(got, rest)
 }
 
 // What a read into a part of the buffer says by its answer.
-fn taken_by(got: isize, part: &[u8]) -> Taken
+fn taken_by(got: io::Result<usize>, part: &[u8]) -> Taken
     ensures answer { result ≡ taken_by got (length part.now) }
     ensures within { count_of result ≤ length part.now }
 {
-    if got < 0 {
-        Taken::Unreadable
-    } else {
-        Taken::Bytes(io::count(got, part))
+    match got {
+        Ok(n) => Taken::Bytes(n.min(part.len())),
+        Err(_) => Taken::Unreadable,
     }
 }

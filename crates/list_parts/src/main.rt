@@ -1,51 +1,64 @@
 // Lists what a query finds in a register: the file is parts.bsl in the current folder, the query's text is standard input.
 // Prints the listing, or the line of a refusal. Where not all of it can be written it says so on standard error.
-use libc::{STDERR_FILENO, STDOUT_FILENO};
+#![tactic(auto)]
+
 use limits::{MOST_FILE, MOST_TEXT};
+use std::env::FillError;
+use std::io;
+use std::rt::Env;
 
 // Bytes that are printed at a time.
 const PIECE: usize = 65536;
 
 // Lends a byte more than is taken of each input, so that a larger one shows. What a disk elsewhere could not take may show only
-// when the output is closed, so that is looked at too.
-fn main() {
-    if 1 < os::arg_count() {
-        say_usage();
+// once all is written, so that is looked at too.
+fn main(rt: HostRuntime) {
+    if has_argument(&rt) {
+        say_usage(&rt);
         return;
     }
     let mut file = [0u8; MOST_FILE + 1];
     let mut text = [0u8; MOST_TEXT + 1];
     let mut out = [0u8; PIECE];
-    let printed = printing::list_parts(&mut file, &mut text, &mut out);
-    if printed.written < printed.all {
-        say_cut_short(printed.written, printed.all);
+    let mut input = rt.stdin();
+    let mut output = rt.stdout();
+    let printed = printing::list_parts(
+        &rt,
+        &mut input,
+        &mut output,
+        &mut file,
+        &mut text,
+        &mut out,
+    );
+    if let Some(error) = printed.failure {
+        say_cut_short(&rt, printed.written, printed.all, &error);
         return;
     }
-    if libc::close(STDOUT_FILENO) < 0 {
-        os::fail(b"list_parts: the listing may not be whole, closing it failed");
+    if let Err(error) = putting::saved(&rt) {
+        putting::fail(
+            &rt,
+            "list_parts: the listing may not be whole, saving it failed",
+            &error,
+        );
     }
 }
 
-// Says that the listing is not whole, why, and how much of it was written: just after the write that failed, so that the
-// system's reason is that write's.
-fn say_cut_short(written: usize, all: usize) {
-    os::fail(b"list_parts: the listing is not whole");
-    say(b"list_parts: ");
-    io::print_decimal(STDERR_FILENO, written as u64);
-    say(b" of ");
-    io::print_decimal(STDERR_FILENO, all as u64);
-    say(b" bytes were written\n");
+// Whether the program was called with an argument, an empty one too.
+fn has_argument<R: Env>(rt: &R) -> bool {
+    let mut word = [0u8; 1];
+    !matches!(rt.arg(1, &mut word), Err(FillError::NotPresent))
 }
 
-// Says how the program is called.
-fn say_usage() {
-    say(b"usage: list_parts < QUERY\n");
-    say(
-        b"It takes no argument: it reads the register parts.bsl in the current folder and the query on standard input.\n",
+// Says that the listing is not whole, why, and how much of it was written.
+fn say_cut_short<R: Eprint>(rt: &R, written: usize, all: usize, error: &io::Error) {
+    putting::fail(rt, "list_parts: the listing is not whole", error);
+    let _ = eprintln!(rt; "list_parts: {written} of {all} bytes were written");
+}
+
+// Says how the program is called. Where that cannot be written there is nowhere to say it.
+fn say_usage<R: Eprint>(rt: &R) {
+    let _ = eprintln!(rt; "usage: list_parts < QUERY");
+    let _ = eprintln!(rt;
+        "It takes no argument: it reads the register parts.bsl in the current folder and the query on standard input."
     );
-}
-
-// Says words on standard error. Where these cannot be written there is nowhere to say it.
-fn say(words: &[u8]) {
-    io::write_all(STDERR_FILENO, words);
 }

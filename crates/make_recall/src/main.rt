@@ -1,35 +1,49 @@
 // Prints the file of an example register as a recall meets it, as the writer makes it: 10,000 pickups, and of each the
 // crystal lot (12 bits), the board issue (5), the test bench (4) and the site (3). The codes follow from the row alone.
 // Where not all of the file can be written it says so on standard error.
+#![tactic(auto)]
+
 ghost use Rattle.std.specs.Prelude.{◌≡◌, map, length};
 ghost use Rattle.basis.specs.Lists.{below};
 ghost use Rattle.basis.specs.Buffers.{laid};
 ghost use Rattle.make_recall.specs.Pickups.{lot_of, issue_of, bench_of, site_of, code_of, code_at};
 
 use answers::Answer;
-use libc::STDOUT_FILENO;
+use std::io::Write;
+use std::rt::{Clock, Files};
 
 const ROWS: usize = 10000;
 
-fn main() {
+fn main(rt: HostRuntime) {
     let widths = [12u8, 5, 4, 3];
     let mut codes = [0u64; 40000];
     // as long as the file
     let mut out = [0u8; 50048];
-    print_register(&widths, &mut codes, &mut out);
+    print_register(&rt, &mut rt.stdout(), &widths, &mut codes, &mut out);
 }
 
-fn print_register(widths: &[u8], codes: &mut [u64], out: &mut [u8]) {
+fn print_register<R: Files + Clock + Eprint, W: Write>(
+    rt: &R,
+    output: &mut W,
+    widths: &[u8],
+    codes: &mut [u64],
+    out: &mut [u8],
+) {
     fill(codes);
-    let Answer::Elements(bytes) = writer::write(ROWS, widths, codes, out) else {
+    let Answer::Elements(_) = writer::write(ROWS, widths, codes, out) else {
         return;
     };
-    if putting::put_all(STDOUT_FILENO, out) < bytes {
-        os::fail(b"make_recall: the file is not whole");
+    let put = putting::put_all(rt, output, out);
+    if let Some(error) = put.failure {
+        putting::fail(rt, "make_recall: the file is not whole", &error);
         return;
     }
-    if libc::close(STDOUT_FILENO) < 0 {
-        os::fail(b"make_recall: the file may not be whole, closing it failed");
+    if let Err(error) = putting::saved(rt) {
+        putting::fail(
+            rt,
+            "make_recall: the file may not be whole, saving it failed",
+            &error,
+        );
     }
 }
 

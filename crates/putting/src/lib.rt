@@ -1,85 +1,152 @@
 // Writing to the last byte: what a write leaves is taken up again, a reader that is slow is waited for, and where a write
 // fails not a byte more is written. Which bytes arrive is the operating system's word, and is not promised.
-ghost use Rattle.std.specs.Prelude.{◌≡◌, ◌+◌, ◌≤◌, length};
+#![tactic(auto)]
+
+ghost use Rattle.std.specs.Prelude.{◌≡◌, ◌+◌, ◌≤◌, ◌↔◌, length, IsNone};
 ghost use Rattle.putting.specs.Putting.{put_count, put_for};
 
-use libc::types::timespec;
-use libc::{EAGAIN, EINTR};
+use std::fs::OpenFile;
+use std::io::{ErrorKind, Write};
+use std::rt::{Clock, Files};
+use std::time::Duration;
+use std::{fs, io, str, thread};
 
 // How often a reader is waited for, a moment each time: longer than any machine lasts, so that the loop has an end.
 const MOST_WAITS: u64 = 18446744073709551615;
 
+// Bytes of the words for an error.
+const MOST_WORDS: usize = 128;
+
+// Standard output by its name.
+const OUTPUT: &str = "/dev/stdout";
+
 // What one write did: it took so many bytes; it can take none yet; or it failed.
-#[derive(Drop)]
+#[derive(Clone, Copy)]
 pub enum Put {
     Bytes(usize),
-    Later,
-    Failed,
+    Later(io::Error),
+    Failed(io::Error),
 }
 
-// Writes all the bytes, and answers how many were taken: fewer than all where a write failed or took none. Just after
-// that the system's error number says why. It ends since each turn leaves fewer bytes or fewer waits.
-pub fn put_all(fd: i32, bytes: &[u8]) -> usize
-    ensures { result ≤ length bytes.now }
+// How many bytes were taken, and why not all of them.
+#[derive(Clone, Copy)]
+pub struct AllPut {
+    pub taken: usize,
+    pub failure: Option<io::Error>,
+}
+
+// Writes all the bytes, and answers how many were taken: fewer than all where a write failed or took none, and then why.
+// It ends since each turn leaves fewer bytes or fewer waits.
+pub fn put_all<W: Write>(clock: &impl Clock, writer: &mut W, bytes: &[u8]) -> AllPut
+    ensures within { result.taken ≤ length bytes.now }
+    ensures why { IsNone result.failure ↔ (result.taken ≡ length bytes.now) }
 {
     let mut done: usize = 0;
     let mut waits = MOST_WAITS;
     while done < bytes.len() {
-        let put = put_more(fd, bytes, done);
+        let put = put_more(writer, bytes, done);
         match put {
             Put::Bytes(more) => {
                 if more == 0 {
-                    return done;
+                    return stopped(done, io::Error::from(ErrorKind::WriteZero));
                 }
                 done = done + more;
             }
-            Put::Later => {
+            Put::Later(error) => {
                 if waits == 0 {
-                    return done;
+                    return stopped(done, error);
                 }
                 waits = waits - 1;
-                pause();
+                pause(clock);
             }
-            Put::Failed => return done,
+            Put::Failed(error) => return stopped(done, error),
         }
     }
-    done
+    AllPut {
+        taken: done,
+        failure: None,
+    }
+}
+
+// That so many bytes were taken and no more, and why.
+fn stopped(taken: usize, error: io::Error) -> AllPut
+    ensures { result ≡ record { taken = taken; failure = Some error } }
+{
+    AllPut {
+        taken,
+        failure: Some(error),
+    }
 }
 
 // One write of the bytes from a place on.
-fn put_more(fd: i32, bytes: &[u8], done: usize) -> Put
+fn put_more<W: Write>(writer: &mut W, bytes: &[u8], done: usize) -> Put
     requires { done ≤ length bytes.now }
     ensures { done + put_count result ≤ length bytes.now }
 {
     let rest = &bytes[done..];
-    let put = libc::write(fd, rest);
-    if put < 0 {
-        return put_for(os::errno());
+    match writer.write(rest) {
+        Ok(more) => Put::Bytes(more),
+        Err(error) => put_for(error),
     }
-    Put::Bytes(io::count(put, rest))
 }
 
-// What a write that took nothing means, by the system's error number: that the reader is behind, or that a signal came,
-// passes; any other does not.
-fn put_for(error: i32) -> Put
+// What a write that took nothing means, by its error: that the reader is behind, or that a signal came, passes; any other
+// does not.
+fn put_for(error: io::Error) -> Put
     ensures answer { result ≡ put_for error }
     ensures nothing { put_count result ≡ 0 }
 {
-    if error == EAGAIN {
-        return Put::Later;
+    let kind = error.kind();
+    if kind == ErrorKind::WouldBlock {
+        return Put::Later(error);
     }
-    if error == EINTR {
-        return Put::Later;
+    if kind == ErrorKind::Interrupted {
+        return Put::Later(error);
     }
-    Put::Failed
+    Put::Failed(error)
 }
 
-// Waits two milliseconds, or less where a signal comes. What is left of them then is not asked for.
-fn pause() {
-    let asked = timespec {
-        tv_sec: 0,
-        tv_nsec: 2000000,
+// Waits two milliseconds.
+fn pause(clock: &impl Clock) {
+    thread::sleep(clock, Duration::from_millis(2));
+}
+
+// Says on standard error what failed, as the caller names it, and why. Where that cannot be written there is nowhere to say it.
+pub fn fail<R: Eprint>(rt: &R, what: &str, error: &io::Error) {
+    let mut text = [0u8; MOST_WORDS];
+    let words = words_of(error, &mut text);
+    let _ = eprintln!(rt; "{what}: {words}");
+}
+
+// The system's words for an error, by way of what is lent for them, without the number that std puts behind.
+fn words_of<'a>(error: &io::Error, text: &'a mut [u8; MOST_WORDS]) -> &'a str {
+    let mut rest: &mut [u8] = text;
+    let room = rest.len();
+    let _ = write!(rest, "{error}");
+    let made = room.saturating_sub(rest.len());
+    let Ok(words) = str::from_utf8(&text[..made]) else {
+        return "";
     };
-    let mut left = asked;
-    libc::nanosleep(&asked, &mut left);
+    match words.split_once(" (os error ") {
+        Some((front, _)) => front,
+        None => words,
+    }
+}
+
+// What a disk elsewhere could not take may show only once all is written. Nothing in std closes standard output and says how that
+// went. So where it is a file of a disk, what was written is sent to that disk now, by the file's own name, which answers the same.
+// Where it is none, or cannot be opened by that name, there is nothing to ask.
+pub fn saved<R: Files>(files: &R) -> io::Result<()> {
+    let Ok(about) = fs::metadata(files, OUTPUT) else {
+        return Ok(());
+    };
+    if !about.is_file() {
+        return Ok(());
+    }
+    let mut how = fs::OpenOptions::new();
+    how.write(true);
+    let Ok(file) = how.open(files, OUTPUT) else {
+        return Ok(());
+    };
+    file.sync_data()
 }

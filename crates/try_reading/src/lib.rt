@@ -1,19 +1,21 @@
 // Reads a request: the numbers of a line, and of these the slices and the outputs of a call. A cursor goes from one to the
 // next; it is NOWHERE from the first on that cannot be read, so that a call looks at the last alone.
+#![tactic(auto)]
+
 ghost use Rattle.std.specs.Prelude.{◌≡◌, get_or};
 ghost use Rattle.try_reading.specs.Requests.{is_digit, Behind, NumbersPut, PartFound, Copied, SlicePut, RoomFound};
 
 pub const NOWHERE: usize = 18446744073709551615;
 
 // How many numbers were read, and whether these are all.
-#[derive(Drop)]
+#[derive(Clone, Copy)]
 pub struct Numbers {
     pub count: usize,
     pub all: bool,
 }
 
 // Where the elements of a slice stand among the numbers, none where it cannot be read, and the place behind it.
-#[derive(Drop)]
+#[derive(Clone, Copy)]
 pub struct Part {
     pub from: usize,
     pub to: usize,
@@ -21,14 +23,14 @@ pub struct Part {
 }
 
 // How many elements of a slice were put into what is lent for them, and the place behind it.
-#[derive(Drop)]
+#[derive(Clone, Copy)]
 pub struct Slice {
     pub count: usize,
     pub next: usize,
 }
 
 // How many elements an output has, how many of them are lent, and whether it is the last of a request.
-#[derive(Drop)]
+#[derive(Clone, Copy)]
 pub struct Room {
     pub elements: usize,
     pub lent: usize,

@@ -1,3 +1,0 @@
--- What a failed write means, and what waiting lends.
-pub mod Errors
-pub mod Lending
