@@ -7,14 +7,14 @@ ghost use Rattle.std.specs.Prelude.{◌+◌, ◌*◌, ◌≤◌, ◌≡◌, leb,
 ghost use Rattle.decimals.specs.Reading.{ended_by, NumberAt, FirstDigit};
 
 // What must follow a decimal: a space between words, a line feed at the end of a line.
-#[derive(Drop)]
+#[derive(Clone, Copy)]
 pub enum After {
     Space,
     LineFeed,
 }
 
 // A decimal with the byte after it, and the place behind both.
-#[derive(Drop)]
+#[derive(Clone, Copy)]
 pub enum Number {
     Value(u64, usize),
     NoNumber,

@@ -1,6 +1,8 @@
 // The calls for C and Rust, which the crate exports_c gives their C names. A reply is so many
 // numbers of 64 bits: number, place and need of a refusal, 0 where there is none, then the values, 0
 // where there is one. A query passes as its text.
+#![tactic(auto)]
+
 ghost use Rattle.std.specs.Prelude.{◌≡◌, length};
 ghost use Rattle.register.specs.Opening as opening;
 ghost use Rattle.widths.specs.Widths as measuring;
@@ -58,12 +60,7 @@ pub fn bsl_read(text: &[u8], reply: &mut [u64; READ_NUMBERS])
 }
 
 // Scans a file by a query's text. Values: matches, total, then 16 counts.
-pub fn bsl_scan(
-    file: &[u8],
-    text: &[u8],
-    out: &mut [u8],
-    reply: &mut [u64; SCAN_NUMBERS],
-)
+pub fn bsl_scan(file: &[u8], text: &[u8], out: &mut [u8], reply: &mut [u64; SCAN_NUMBERS])
     ensures { ScanReplied file.now text.now out.old out.new reply.new }
 {
     let asked = text::read(text);
@@ -83,12 +80,7 @@ pub fn bsl_scan(
 }
 
 // Lists the rows whose bit is set. Value: how many.
-pub fn bsl_list(
-    rows: usize,
-    bits: &[u8],
-    out: &mut [u32],
-    reply: &mut [u64; ANSWER_NUMBERS],
-)
+pub fn bsl_list(rows: usize, bits: &[u8], out: &mut [u32], reply: &mut [u64; ANSWER_NUMBERS])
     ensures reply { reply.new ≡ listing.shown_for rows bits.now (length out.old) }
     ensures left { out.new ≡ listing.left_in rows bits.now out.old }
 {

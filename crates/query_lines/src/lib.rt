@@ -15,14 +15,14 @@ use query::{Comparison, Test};
 const GREATEST_DECIMAL: u64 = DECIMAL_LIMIT - 1;
 
 // A comparison by its sign, its literal still 0, and the place behind the space after it.
-#[derive(Drop)]
+#[derive(Clone, Copy)]
 enum Sign {
     Compares(Comparison, usize),
     NoSign,
 }
 
 // The test of a line, and the place behind the line.
-#[derive(Drop)]
+#[derive(Clone, Copy)]
 pub enum LineRead {
     Asks(Test, usize),
     Malformed,

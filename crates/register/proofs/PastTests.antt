@@ -13,14 +13,13 @@ use Rattle.limits.specs.Limits.{trailer_bytes, entry_bytes, most_rows, most_colu
 use Rattle.basis.specs.Numbers.{little}
 use Rattle.basis.specs.Places.{first_place}
 use Rattle.basis.proofs.Places.{first_at_most}
-use Rattle.basis.proofs.Refusals.{at_first}
 use Rattle.directory.specs.declared.Trailer.{Trailer}
 use Rattle.directory.specs.declared.FitSoFar.{FitSoFar}
 use Rattle.directory.specs.Layout.{slices_before, bytes_before}
 use Rattle.directory.specs.File.{trailer_in, rows_in, columns_in, mark, width_in, unfit_column}
 use Rattle.directory.specs.Trailer.{TrailerRead}
 use Rattle.directory.specs.Fitting.{FitUpTo}
-use Rattle.register.specs.Opening.{first_unfit_column, open_lines}
+use Rattle.register.specs.Opening.{first_unfit_column}
 use Rattle.register.proofs.Opening as opening
 use Rattle.register.proofs.Opening.{Passed}
 

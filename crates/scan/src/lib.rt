@@ -20,7 +20,7 @@ use register::{Opened, Shape};
 
 // The reply to a scan: how many rows match, a count of bytes for each test (0 after the last) and
 // their total; or the refusal, and then 0 in all of these.
-#[derive(Drop)]
+#[derive(Clone, Copy)]
 pub struct Scanned {
     pub refusal: Refusal,
     pub matches: usize,

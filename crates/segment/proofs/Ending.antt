@@ -18,7 +18,7 @@ use Rattle.basis.proofs.Passing.{fails_before}
 use Rattle.basis.proofs.Members.{all_each_same, none_passes, any_from}
 use Rattle.basis.proofs.Runs.{in_below, below_holds, run_holds}
 use Rattle.codes.proofs.Width.{few_slices_of}
-use Rattle.schedule.specs.Schedule.{standing, counts, found}
+use Rattle.schedule.specs.Schedule.{standing, found}
 use Rattle.schedule.specs.Comparisons.{ruled_out_when, true_when, comparing}
 use Rattle.schedule.proofs.EarlyEnd.{NoneCounts, counted_so_far, found_so_far}
 use Rattle.schedule.proofs.Six.{comparing_lawful}

@@ -16,7 +16,7 @@ use standings::{in_rows, last_all, open_row, rule_all, step};
 
 // The plan of a query, made once: where each test's column starts and how many slices it has, and the
 // low and high byte of its literal in each slice, four to a test.
-#[derive(Drop)]
+#[derive(Clone, Copy)]
 pub struct Plan {
     pub offsets: [usize; MOST_TESTS],
     pub slices: [usize; MOST_TESTS],
@@ -25,7 +25,7 @@ pub struct Plan {
 }
 
 // A segment scanned: 1 for each row that is found, and each test's count.
-#[derive(Drop)]
+#[derive(Clone, Copy)]
 pub struct Segment {
     pub found: [u8; LONGEST_SEGMENT],
     pub counts: [usize; MOST_TESTS],

@@ -13,7 +13,7 @@ use query::Query;
 use query_lines::LineRead;
 
 // The reply to a text: the segment size and the query, or the refusal.
-#[derive(Drop)]
+#[derive(Clone, Copy)]
 pub struct Asked {
     pub refusal: Refusal,
     pub size: usize,

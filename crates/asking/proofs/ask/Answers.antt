@@ -2,8 +2,7 @@
 use mathlib.Core.Path.{◌≡◌, refl, sym, ◌∙◌}
 use native.Mathlib.Omega.{arith}
 use mathlib.Core.Bool.{false}
-use borrow.Author.Rules.{rules}
-use lib.ListN.{length, length-map}
+use lib.ListN.{length}
 use Rattle.limits.specs.Limits.{most_tests}
 use Rattle.register.specs.declared.Shape.{Shape}
 use Rattle.register.specs.declared.Opened.{Opened}
@@ -40,18 +39,14 @@ returns-in_default c =
     let kept = promised (goal.at.returns-in_default c).Start (outcomes.refused_file_lem _ _ _ _ (sym c.open-opened.ensures.answer ∙ told) told) in
     record { answer = kept.0; fit = kept.1 }
 
-
 pub returns-then-unfit_size : goal.returns-then-unfit_size
 returns-then-unfit_size c =
-    let past = c in
     let wrong = sym c.unfit_size.ensures ∙ c.if-unfit_size.true in
     let told = promised (goal.at.returns-then-unfit_size c).Start (outcomes.wrong_size _ _ _ _ (opened (goal.at.returns-then-unfit_size c).In-Register) wrong c.refused.ensures) in
     record { answer = told.0; fit = told.1 }
 
 pub returns-then-count-gt-MOST_TESTS : goal.returns-then-count-gt-MOST_TESTS
 returns-then-count-gt-MOST_TESTS c =
-    let sized = c in
-    let past = sized in
     let told = promised (goal.at.returns-then-count-gt-MOST_TESTS c).Start (outcomes.too_many_tests _ _ _ _ (opened (goal.at.returns-then-count-gt-MOST_TESTS c).In-Register) (right (goal.at.returns-then-count-gt-MOST_TESTS c).Else-unfit_size) c.if-count-gt-MOST_TESTS.true c.refused-then-count-gt-MOST_TESTS.ensures) in
     record { answer = told.0; fit = told.1 }
 
@@ -66,7 +61,6 @@ returns-in-Unfit c =
     (right (goal.at.returns-in-Unfit c).Else-unfit_size) c.if-count-gt-MOST_TESTS.false _
     (sym c.judge_tests-verdict.ensures.first ∙ c.in-Unfit.is) refl) in
     record { answer = told.0; fit = told.1 }
-
 
 pub returns : goal.returns
 returns c =

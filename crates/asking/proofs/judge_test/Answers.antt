@@ -1,7 +1,6 @@
 -- `asking::judge_test` meets its contract: either test of the code is a line of the test's table, in its order. Assumes nothing.
 use Prim.Native.Nat.{◌<◌}
 use mathlib.Core.Path.{◌≡◌, sym, ap₂, ◌∙◌}
-use borrow.Author.Rules.{rules}
 use Rattle.codes.specs.Width.{too_large}
 use Rattle.directory.specs.File.{columns_in, width_in}
 use Rattle.register.proofs.Fit.{columns_as_opened, width_as_opened}
@@ -22,23 +21,18 @@ literal_is c = sym (c.too_large.ensures ∙ ap₂ too_large c.width_at.ensures c
 
 pub returns-then-shape-column : goal.returns-then-shape-column
 returns-then-shape-column c =
-    let start = c in
-    let missing = rw (columns_as_opened _ _ start.requires) at c.if-shape-column.true in
-    c.unfit.ensures ∙ sym (judging.no_such_column _ _ start.args.test missing)
+    let missing = rw (columns_as_opened _ _ c.requires) at c.if-shape-column.true in
+    c.unfit.ensures ∙ sym (judging.no_such_column _ _ c.args.test missing)
 
 pub too_large-requires : goal.too_large-requires
 too_large-requires c =
-    let here = c in
-    rw c.width_at.ensures (width_as_opened _ _ here.requires _ here.if-shape-column.false).1
+    rw c.width_at.ensures (width_as_opened _ _ c.requires _ c.if-shape-column.false).1
 
 pub returns-then-too_large : goal.returns-then-too_large
 returns-then-too_large c =
-    let large = c in
-    let here = large in
     c.unfit-then-too_large.ensures
-    ∙ sym (judging.too_large_a_literal _ _ here.args.test (there (goal.at.returns-then-too_large c).Else-shape-column) (literal_is (goal.at.returns-then-too_large c).After-too_large ∙ c.if-too_large.true))
+    ∙ sym (judging.too_large_a_literal _ _ c.args.test (there (goal.at.returns-then-too_large c).Else-shape-column) (literal_is (goal.at.returns-then-too_large c).After-too_large ∙ c.if-too_large.true))
 
 pub returns : goal.returns
 returns c =
-    let here = c in
-    sym (judging.fit_test _ _ here.args.test (there (goal.at.returns c).Else-shape-column) (literal_is (goal.at.returns c).After-too_large ∙ c.if-too_large.false))
+    sym (judging.fit_test _ _ c.args.test (there (goal.at.returns c).Else-shape-column) (literal_is (goal.at.returns c).After-too_large ∙ c.if-too_large.false))

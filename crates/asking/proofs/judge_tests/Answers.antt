@@ -1,13 +1,12 @@
 -- `asking::judge_tests` meets its contract: a turn walks past the lines of one test, or ends with its verdict. Assumes nothing.
-use Prim.Native.Nat.{◌-◌, ◌≤◌, ◌<◌}
+use Prim.Native.Nat.{◌≤◌, ◌<◌}
 use native.Mathlib.Omega.{arith}
 use native.Mathlib.Numerals.{add-one}
 use mathlib.Core.Path.{◌≡◌, sym, ap, ◌∙◌}
-use borrow.Author.Rules.{rules}
-use lib.ListN.{length, take, drop, drop_of_length-le}
+use lib.ListN.{length, take, drop_of_length-le}
 use lib.Seq.{get_or-take, length-take-le}
 use Rattle.basis.specs.Refusals.{first_line}
-use Rattle.basis.proofs.Refusals.{Past, at_first, ends}
+use Rattle.basis.proofs.Refusals.{at_first, ends}
 use Rattle.query.specs.Tests.{empty_slot, test_at}
 use Rattle.asking.specs.Refusals.{lines_for, lines_for_all}
 use Rattle.asking.specs.Verdicts.{verdict_of}
@@ -20,8 +19,7 @@ as_many : (c : At-loop-t) →
     let a = c.args in
     length (take a.count a.tests) ≡ a.count
 as_many c =
-    let start = c in
-    length-take-le start.args.count start.args.tests (omega arith)
+    length-take-le c.args.count c.args.tests (omega arith)
 
 there : (c : In-loop-t) →
     let a = c.args in
@@ -50,7 +48,6 @@ returns-in_default c =
     (said (goal.at.returns-in_default c).After-judge_test-verdict ∙ told) in
     record { first = told ∙ sym answers; judged = λ e. absurd (judging.unfit_is_not_fit (sym told ∙ e)) }
 
-
 pub loop-t-preserved : goal.loop-t-preserved
 loop-t-preserved c =
     let further =
@@ -58,17 +55,14 @@ loop-t-preserved c =
     (said (goal.at.loop-t-preserved c).After-judge_test-verdict ∙ c.in-Fit.is) in
     (omega arith, rw (add-one c.loop-t.t) further)
 
-
 pub returns : goal.returns
 unfolding lines_for_all
 returns c =
-    let turn = c in
-    let start = turn in
-    let none_left = drop_of_length-le (take start.args.count start.args.tests) {i = turn.loop-t.t}
+    let none_left = drop_of_length-le (take c.args.count c.args.tests) {i = c.loop-t.t}
     (omega (arith, as_many (goal.at.returns c).At-loop-t, c.loop-t-test.false)) in
-    let none_answers = ends (rw none_left at turn.loop-t.invariant.1) in
-    let room : start.args.count ≤ length start.args.tests = omega arith in
+    let none_answers = ends (rw none_left at c.loop-t.invariant.1) in
+    let room : c.args.count ≤ length c.args.tests = omega arith in
     record {
       first = sym (ap verdict_of none_answers);
-      judged = λ e. judging.judged _ _ _ _ start.requires.opened start.requires.few room 0 none_answers;
+      judged = λ e. judging.judged _ _ _ _ c.requires.opened c.requires.few room 0 none_answers;
     }

@@ -6,7 +6,6 @@ use native.Mathlib.Omega.{arith}
 use native.Mathlib.Nat.{le_of_lt, lt_of_le_of_lt, mul-le-mul, div-div-eq-div-mul, div-one, pow-succ'}
 use lib.Dec.{lit<}
 use lib.Pow.{pow_mono, pow-lt}
-use borrow.Author.Rules.{rules}
 use Rattle.limits.specs.Limits.{widest}
 use Rattle.codes.specs.Bytes.{stored_of}
 use Rattle.codes.proofs.Width.{pad_below_eight}
@@ -35,8 +34,7 @@ loop-after-preserved c = one_byte_less c.loop-after.rest c.loop-after.after c.lo
 pub returns : goal.returns
 unfolding stored_of
 returns c =
-    let start = c in
     let none : c.loop-after.after ≡ 0 = omega arith in
     let rest-is = rw (none, c.unit_of.ensures, c.slices_of.ensures) at c.loop-after.invariant in
     ap (λ (rest : ℕ). rest % 256) (sym (div-one c.loop-after.rest) ∙ rest-is)
-    ∙ sym (byte_of_digit start.args.width start.args.code start.args.slice start.requires.2)
+    ∙ sym (byte_of_digit c.args.width c.args.code c.args.slice c.requires.2)

@@ -1,13 +1,12 @@
 -- `codes::join` meets its contract: the number so far is that of the bytes passed, and one byte more makes it 256 times as
 -- great and adds the byte; the division drops the pad. Assumes nothing.
-use Prim.Native.Nat.{◌-◌, ◌^◌, ◌≤◌, ◌<◌}
-use mathlib.Core.Path.{◌≡◌}
+use Prim.Native.Nat.{◌-◌, ◌^◌, ◌<◌}
 use native.Mathlib.Omega.{arith}
 use native.Mathlib.Nat.{pow-suc}
 use native.Mathlib.Numerals.{add-one}
 use borrow.Author.Rules.{rules}
 use lib.Arith.{digits_lt}
-use lib.ListN.{length, take}
+use lib.ListN.{length}
 use lib.Pow.{pow_pos}
 use lib.Seq.{take-suc, take_all}
 use Rattle.limits.specs.Limits.{most_slices}
@@ -20,8 +19,7 @@ use Rattle.codes.proofs.join.Goals.{In-loop-i}
 -- while a byte is left, the number so far has a byte less than the most
 room : (c : In-loop-i) → c.loop-i.number < 256 ^ (most_slices - 1)
 room c =
-    let start = c in
-    omega (arith, earlier_slices start.args.width c.loop-i.i start.requires.0 (omega arith))
+    omega (arith, earlier_slices c.args.width c.loop-i.i c.requires.0 (omega arith))
 
 pub loop-i-init : goal.loop-i-init
 unfolding big

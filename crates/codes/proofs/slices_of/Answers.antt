@@ -1,6 +1,5 @@
 -- `codes::slices_of` meets its contract: it computes slices_of as that is written. Assumes nothing.
 use mathlib.Core.Path.{refl}
-use borrow.Author.Rules.{rules}
 use Rattle.codes.specs.Width.{slices_of}
 use Rattle.codes.proofs.slices_of.Goals as goal
 

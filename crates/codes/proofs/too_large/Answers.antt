@@ -4,7 +4,6 @@ use native.Mathlib.Omega.{arith}
 use native.Mathlib.Nat.{one-mul}
 use lib.Dec.{lit<}
 use lib.Pow.{shl_exact}
-use borrow.Author.Rules.{rules}
 use Rattle.codes.specs.Width.{too_large}
 use Rattle.codes.proofs.too_large.Goals as goal
 

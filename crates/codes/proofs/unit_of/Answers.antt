@@ -4,7 +4,6 @@ use native.Mathlib.Omega.{arith}
 use native.Mathlib.Nat.{one-mul}
 use lib.Dec.{lit<}
 use lib.Pow.{shl_exact}
-use borrow.Author.Rules.{rules}
 use Rattle.codes.specs.Width.{slices_of, pad_of}
 use Rattle.codes.proofs.Width.{pad_below_eight, width_and_pad}
 use Rattle.codes.proofs.unit_of.Goals as goal

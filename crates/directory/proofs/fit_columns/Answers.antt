@@ -1,15 +1,14 @@
 -- `directory::fit_columns` meets its contract: every column passed is fit, so the sum of their slices is known and small.
 -- Assumes nothing.
-use Prim.Native.Nat.{ℕ, ◌+◌, ◌-◌, ◌*◌, ◌≤◌, ◌<◌}
+use Prim.Native.Nat.{ℕ, ◌+◌, ◌-◌, ◌*◌, ◌<◌}
 use native.Mathlib.Omega.{arith}
 use native.Mathlib.Numerals.{add-one}
 use mathlib.Core.Path.{◌≡◌, refl, sym, ap, ◌∙◌}
 use mathlib.Core.List.{List}
 use mathlib.Core.Bool.{Bool, false}
-use borrow.Author.Rules.{rules}
 use borrow.Author.Count.{below_more}
 use lib.ListN.{length, take, drop}
-use Rattle.limits.specs.Limits.{most_slices, entry_bytes}
+use Rattle.limits.specs.Limits.{entry_bytes}
 use Rattle.basis.proofs.Places.{first_is, first_is_none}
 use Rattle.codes.specs.Width.{slices_of}
 use Rattle.codes.proofs.Width.{few_slices_of}
@@ -50,13 +49,11 @@ unfit_as_said c said same =
 
 -- a column found fit is passed
 passed : (c : After-slices_of-slices) →
-    let turn = c in
-    Passed c.args.file.now turn.args.columns (turn.loop-column.slices + c.slices_of-slices.result)
-    (turn.loop-column.column + 1)
+    Passed c.args.file.now c.args.columns (c.loop-column.slices + c.slices_of-slices.result)
+    (c.loop-column.column + 1)
 unfolding width_in
 passed c =
-    let turn = c in
-    let loop = turn.loop-column in
+    let loop = c.loop-column in
     one_more_passed c.args.file.now _ loop.slices loop.column c.slices_of-slices.result loop.invariant (omega arith)
     (unfit_as_said (goal.at.overflow_add-slices c).In-loop-column _ c.unfit_entry.ensures ∙ c.if-unfit_entry.false)
     (c.slices_of-slices.ensures ∙ ap (λ (entry : List ℕ). slices_of (entry_width entry)) (here (goal.at.overflow_add-slices c).In-loop-column).0)

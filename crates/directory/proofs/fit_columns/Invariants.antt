@@ -1,20 +1,11 @@
 -- What the loop of `fit_columns` keeps, and what each turn makes less.
-use Prim.Native.Nat.{ℕ, ◌+◌, ◌-◌, ◌*◌, ◌≤◌, ◌<◌}
-use native.Mathlib.Omega.{arith}
-use native.Mathlib.Numerals.{add-one}
-use mathlib.Core.Path.{◌≡◌, refl, sym, ap, ◌∙◌}
+use Prim.Native.Nat.{ℕ, ◌-◌, ◌*◌, ◌≤◌, ◌<◌}
+use mathlib.Core.Path.{◌≡◌}
 use mathlib.Core.List.{List}
 use mathlib.Core.Bool.{false}
-use borrow.Author.Rules.{rules}
-use borrow.Author.Count.{below_more}
-use lib.ListN.{length, take, drop}
-use Rattle.limits.specs.Limits.{most_slices, entry_bytes}
-use Rattle.basis.proofs.Places.{first_is, first_is_none}
-use Rattle.codes.specs.Width.{slices_of}
-use Rattle.codes.proofs.Width.{few_slices_of}
+use Rattle.limits.specs.Limits.{most_slices}
 use Rattle.directory.specs.Layout.{slices_before}
-use Rattle.directory.specs.File.{entry_in, entry_width, width_in, unfit_column}
-use Rattle.directory.proofs.Entries.{entry_cut, unfit_by_entry, fit_column, one_more_column, few_bytes}
+use Rattle.directory.specs.File.{width_in, unfit_column}
 use Rattle.directory.proofs.fit_columns.Given as goal
 
 -- the columns passed are fit, and their slices are counted

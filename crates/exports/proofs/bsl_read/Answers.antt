@@ -1,5 +1,4 @@
 -- `exports::bsl_read` meets its contract: the reader's own reply, as numbers. Assumes nothing.
-use borrow.Author.Rules.{rules}
 use Rattle.exports.proofs.bsl_read.Goals as goal
 
 pub returns : goal.returns

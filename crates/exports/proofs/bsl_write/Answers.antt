@@ -1,6 +1,5 @@
 -- `exports::bsl_write` meets its contract: the call's own promise, as it is shown. Assumes nothing.
 use mathlib.Core.Path.{◌∙◌}
-use borrow.Author.Rules.{rules}
 use Rattle.exports.proofs.bsl_write.Goals as goal
 
 pub returns : goal.returns

@@ -1,5 +1,4 @@
 -- `finding::find` meets its contract: the text is read, and then the file is looked at. Assumes nothing.
-use borrow.Author.Rules.{rules}
 use Rattle.finding.proofs.Outcomes.{text_refused}
 use Rattle.finding.proofs.find.Goals as goal
 

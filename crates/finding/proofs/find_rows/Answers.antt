@@ -4,7 +4,6 @@ use lib.ListN.{length}
 use borrow.Author.Rules.{rules}
 use Rattle.limits.specs.Limits.{most_rows}
 use Rattle.register.specs.declared.Opened.TheVariants.{Register}
-use Rattle.register.specs.declared.Shape.{Shape}
 use Rattle.register.specs.Answers.{refusal_of}
 use Rattle.asking.specs.Refusals.{asked_of}
 use Rattle.bits.specs.Bits.{bytes_for}

@@ -1,5 +1,4 @@
 -- `finding::refused` meets its contract: sixteen empty slots. Assumes nothing.
-use borrow.Author.Rules.{rules}
 use Rattle.finding.proofs.refused.Goals as goal
 
 pub returns : goal.returns

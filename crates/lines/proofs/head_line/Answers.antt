@@ -1,6 +1,5 @@
 -- `lines::head_line` meets its contract: its words and numbers, one behind the other. Assumes nothing.
 use native.Mathlib.Omega.{arith}
-use borrow.Author.Rules.{rules}
 use Rattle.lines.specs.Lines.{head_line}
 use Rattle.pieces.proofs.Writing.{written_then}
 use Rattle.lines.proofs.head_line.Goals as goal

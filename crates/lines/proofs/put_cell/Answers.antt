@@ -1,6 +1,5 @@
 -- `lines::put_cell` meets its contract: a space, and the code behind it. Assumes nothing.
 use native.Mathlib.Omega.{arith}
-use borrow.Author.Rules.{rules}
 use Rattle.pieces.proofs.Writing.{written_then}
 use Rattle.lines.proofs.put_cell.Goals as goal
 

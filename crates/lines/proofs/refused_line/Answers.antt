@@ -1,5 +1,4 @@
 -- `lines::refused_line` meets its contract: its words and numbers, one behind the other. Assumes nothing.
-use borrow.Author.Rules.{rules}
 use Rattle.lines.specs.Lines.{refused_line}
 use Rattle.pieces.proofs.Writing.{written_then}
 use Rattle.lines.proofs.refused_line.Goals as goal

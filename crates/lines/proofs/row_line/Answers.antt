@@ -1,6 +1,5 @@
 -- `lines::row_line` meets its contract: its word, its number and its cells, one behind the other. Assumes nothing.
 use native.Mathlib.Omega.{arith}
-use borrow.Author.Rules.{rules}
 use Rattle.lines.specs.Lines.{row_line}
 use Rattle.pieces.proofs.Writing.{written_then}
 use Rattle.register.proofs.Fit.{columns_as_opened}

@@ -1,6 +1,5 @@
 -- `listing::prepare` meets its contract: either input is judged, and then the two are looked at. Assumes nothing.
 use mathlib.Core.Path.{refl, sym, ap, ◌∙◌}
-use borrow.Author.Rules.{rules}
 use Rattle.finding.specs.Finding.{refused_found}
 use Rattle.listing.proofs.Inputs.{file_unread, text_unread, both_read}
 use Rattle.listing.proofs.prepare.Goals as goal

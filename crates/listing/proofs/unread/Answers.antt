@@ -1,5 +1,4 @@
 -- `listing::unread` meets its contract, by whether the input was read. Assumes nothing.
-use borrow.Author.Rules.{rules}
 use Rattle.listing.proofs.unread.Goals as goal
 
 pub returns-then-read : goal.returns-then-read

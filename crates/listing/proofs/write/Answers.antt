@@ -1,5 +1,4 @@
 -- `listing::write` meets its contract: what is found is listed. Assumes nothing.
-use borrow.Author.Rules.{rules}
 use Rattle.listing.proofs.FoundListing.{can_be_listed, listed_in}
 use Rattle.listing.proofs.write.Goals as goal
 

@@ -1,5 +1,4 @@
 -- `listing::write_read` meets its contract: what is found of the inputs is listed. Assumes nothing.
-use borrow.Author.Rules.{rules}
 use Rattle.listing.proofs.Inputs.{inputs_can_be_listed, listed_of_inputs}
 use Rattle.listing.proofs.write_read.Goals as goal
 

@@ -1,10 +1,10 @@
 -- x
-use Prim.Native.Nat.{ℕ, suc, ◌+◌, ◌-◌, ◌*◌, ◌^◌, ◌≤◌, ◌<◌}
+use Prim.Native.Nat.{ℕ, suc, ◌+◌, ◌-◌, ◌*◌, ◌^◌, ◌<◌}
 use native.Mathlib.Omega.{arith}
 use native.Mathlib.Nat.{lt_of_lt_of_le, pow-le-pow_right}
 use mathlib.Core.Path.{◌≡◌}
 use mathlib.Core.List.{List}
-use lib.ListN.{length, drop, get_or}
+use lib.ListN.{length, get_or}
 use lib.Seq.{drop-length}
 use Rattle.basis.specs.Numbers.{little}
 use Rattle.basis.proofs.Numbers.{little_from, one_more_byte}
@@ -40,8 +40,7 @@ overflow_add-number c = omega (arith, room (goal.at.overflow_add-number c).In-lo
 
 pub loop-left-preserved : goal.loop-left-preserved
 loop-left-preserved c =
-    let turn = c in
-    one_more _ turn.loop-left.left turn.loop-left.number c.wide.result turn.loop-left.invariant (omega arith) c.wide.ensures.same c.wide.ensures.small
+    one_more _ c.loop-left.left c.loop-left.number c.wide.result c.loop-left.invariant (omega arith) c.wide.ensures.same c.wide.ensures.small
 
 pub returns : goal.returns
 returns c =

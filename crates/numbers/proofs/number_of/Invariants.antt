@@ -1,4 +1,4 @@
-use Rattle.std.proofs.Common.{◌≡◌, ◌≤◌, length, ℕ, ◌*◌, ◌^◌, ◌-◌, ◌<◌, drop, List}
+use Rattle.std.proofs.Common.{◌≡◌, ◌≤◌, length, ℕ, ◌^◌, ◌-◌, ◌<◌, drop, List}
 use Rattle.basis.specs.Numbers.{little}
 use Rattle.numbers.proofs.number_of.Given as goal
 

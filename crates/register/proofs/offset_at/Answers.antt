@@ -1,6 +1,5 @@
 -- `register::offset_at` meets its contract: the last four bytes of the entry are the offset. Assumes nothing.
 use mathlib.Core.Path.{ap, ◌∙◌}
-use borrow.Author.Rules.{rules}
 use Rattle.basis.specs.Numbers.{number_at}
 use Rattle.directory.specs.File.{entry_offset, offset_in}
 use Rattle.register.proofs.offset_at.Goals as goal

@@ -67,7 +67,7 @@ returns-then-trailer-eq0 c =
     let read = known file c.read_trailer-trailer.result c.read_trailer-trailer.ensures in
     let past =
     past_3 file _ read c.if-length-lt-TRAILER_BYTES.false c.if-trailer-ne-MARK.false c.if-trailer-ne1.false
-        c.if-trailer-gt-MOST_ROWS.false in
+    c.if-trailer-gt-MOST_ROWS.false in
     let none = sym read.columns ∙ c.if-trailer-eq0.true in
     let told =
     opening.refused_by _ (stops past (left_holds _ _ (eq-eqb _ _ none))) c.refused-then-trailer-eq0.ensures in
@@ -80,7 +80,7 @@ returns-then-trailer-gt-MOST_COLUMNS c =
     let read = known file c.read_trailer-trailer.result c.read_trailer-trailer.ensures in
     let past =
     past_3 file _ read c.if-length-lt-TRAILER_BYTES.false c.if-trailer-ne-MARK.false c.if-trailer-ne1.false
-        c.if-trailer-gt-MOST_ROWS.false in
+    c.if-trailer-gt-MOST_ROWS.false in
     let many : most_columns < columns_in file = omega (arith, read.columns, c.if-trailer-gt-MOST_COLUMNS.true) in
     let told =
     opening.refused_by _ (stops past (right_holds (eqb (columns_in file) 0) _ (lt-ltb _ _ many)))
@@ -94,7 +94,7 @@ returns-then-trailer-length c =
     let read = known file c.read_trailer-trailer.result c.read_trailer-trailer.ensures in
     let past =
     past_4 file _ read c.if-length-lt-TRAILER_BYTES.false c.if-trailer-ne-MARK.false c.if-trailer-ne1.false
-        c.if-trailer-gt-MOST_ROWS.false c.if-trailer-eq0.false c.if-trailer-gt-MOST_COLUMNS.false in
+    c.if-trailer-gt-MOST_ROWS.false c.if-trailer-eq0.false c.if-trailer-gt-MOST_COLUMNS.false in
     let end = directory_in file + entry_bytes * columns_in file + trailer_bytes in
     let elsewhere = differs end (length file) (omega (arith, read.columns, read.directory, c.if-trailer-length.true)) in
     let told =
@@ -119,11 +119,11 @@ returns-then-fit-trailer c =
     let read = known file c.read_trailer-trailer.result c.read_trailer-trailer.ensures in
     let past =
     past_5 file _ read c.if-length-lt-TRAILER_BYTES.false c.if-trailer-ne-MARK.false c.if-trailer-ne1.false
-        c.if-trailer-gt-MOST_ROWS.false c.if-trailer-eq0.false c.if-trailer-gt-MOST_COLUMNS.false c.if-trailer-length.false in
+    c.if-trailer-gt-MOST_ROWS.false c.if-trailer-eq0.false c.if-trailer-gt-MOST_COLUMNS.false c.if-trailer-length.false in
     let first =
     first_unfit file _ read c.if-length-lt-TRAILER_BYTES.false c.if-trailer-ne-MARK.false c.if-trailer-ne1.false
-        c.if-trailer-gt-MOST_ROWS.false c.if-trailer-eq0.false c.if-trailer-gt-MOST_COLUMNS.false c.if-trailer-length.false
-        c.fit_columns-fit.result c.fit_columns-fit.ensures in
+    c.if-trailer-gt-MOST_ROWS.false c.if-trailer-eq0.false c.if-trailer-gt-MOST_COLUMNS.false c.if-trailer-length.false
+    c.fit_columns-fit.result c.fit_columns-fit.ensures in
     let unfit : first_unfit_column file < columns_in file = omega (arith, read.columns, first, c.if-fit-trailer.true) in
     let told =
     opening.refused_by _ (stops past (lt-ltb _ _ unfit)) (c.refused-then-fit-trailer.ensures ∙ ap (refused_with 6) first) in
@@ -137,8 +137,8 @@ overflow_mul-trailer-2 c =
     let all = first_at_most (unfit_column file) (columns_in file) in
     let first =
     first_unfit file _ read c.if-length-lt-TRAILER_BYTES.false c.if-trailer-ne-MARK.false c.if-trailer-ne1.false
-        c.if-trailer-gt-MOST_ROWS.false c.if-trailer-eq0.false c.if-trailer-gt-MOST_COLUMNS.false c.if-trailer-length.false
-        fit.result fit.ensures in
+    c.if-trailer-gt-MOST_ROWS.false c.if-trailer-eq0.false c.if-trailer-gt-MOST_COLUMNS.false c.if-trailer-length.false
+    fit.result fit.ensures in
     omega (
       arith,
       few_bytes c.read_trailer-trailer.result.rows fit.result.slices fit.result.place c.if-trailer-gt-MOST_ROWS.false fit.ensures.few
@@ -152,12 +152,12 @@ returns-then-trailer-fit c =
     let read = known file c.read_trailer-trailer.result c.read_trailer-trailer.ensures in
     let past =
     past_6 file _ read c.if-length-lt-TRAILER_BYTES.false c.if-trailer-ne-MARK.false c.if-trailer-ne1.false
-        c.if-trailer-gt-MOST_ROWS.false c.if-trailer-eq0.false c.if-trailer-gt-MOST_COLUMNS.false c.if-trailer-length.false
-        c.fit_columns-fit.result c.fit_columns-fit.ensures c.if-fit-trailer.false in
+    c.if-trailer-gt-MOST_ROWS.false c.if-trailer-eq0.false c.if-trailer-gt-MOST_COLUMNS.false c.if-trailer-length.false
+    c.fit_columns-fit.result c.fit_columns-fit.ensures c.if-fit-trailer.false in
     let whole =
     body file _ read c.if-length-lt-TRAILER_BYTES.false c.if-trailer-ne-MARK.false c.if-trailer-ne1.false
-        c.if-trailer-gt-MOST_ROWS.false c.if-trailer-eq0.false c.if-trailer-gt-MOST_COLUMNS.false c.if-trailer-length.false
-        c.fit_columns-fit.result c.fit_columns-fit.ensures c.if-fit-trailer.false in
+    c.if-trailer-gt-MOST_ROWS.false c.if-trailer-eq0.false c.if-trailer-gt-MOST_COLUMNS.false c.if-trailer-length.false
+    c.fit_columns-fit.result c.fit_columns-fit.ensures c.if-fit-trailer.false in
     let told =
     opening.refused_by _ (stops past (differs _ _ (λ e. c.if-trailer-fit.true (whole ∙ e ∙ sym read.directory))))
     c.refused-then-trailer-fit.ensures in
@@ -169,12 +169,12 @@ returns c =
     let read = known file c.read_trailer-trailer.result c.read_trailer-trailer.ensures in
     let past =
     past_6 file _ read c.if-length-lt-TRAILER_BYTES.false c.if-trailer-ne-MARK.false c.if-trailer-ne1.false
-        c.if-trailer-gt-MOST_ROWS.false c.if-trailer-eq0.false c.if-trailer-gt-MOST_COLUMNS.false c.if-trailer-length.false
-        c.fit_columns-fit.result c.fit_columns-fit.ensures c.if-fit-trailer.false in
+    c.if-trailer-gt-MOST_ROWS.false c.if-trailer-eq0.false c.if-trailer-gt-MOST_COLUMNS.false c.if-trailer-length.false
+    c.fit_columns-fit.result c.fit_columns-fit.ensures c.if-fit-trailer.false in
     let whole =
     body file _ read c.if-length-lt-TRAILER_BYTES.false c.if-trailer-ne-MARK.false c.if-trailer-ne1.false
-        c.if-trailer-gt-MOST_ROWS.false c.if-trailer-eq0.false c.if-trailer-gt-MOST_COLUMNS.false c.if-trailer-length.false
-        c.fit_columns-fit.result c.fit_columns-fit.ensures c.if-fit-trailer.false in
+    c.if-trailer-gt-MOST_ROWS.false c.if-trailer-eq0.false c.if-trailer-gt-MOST_COLUMNS.false c.if-trailer-length.false
+    c.fit_columns-fit.result c.fit_columns-fit.ensures c.if-fit-trailer.false in
     let told =
     opening.opened_by _ (opening.body_last _ past (sym whole ∙ c.if-trailer-fit.false ∙ read.directory))
     (ap₂ (λ (rows columns : ℕ). Register (record { rows = rows; columns = columns })) read.rows read.columns) in

@@ -1,6 +1,5 @@
 -- `register::width_at` meets its contract: the first byte of the entry is the width. Assumes nothing.
 use mathlib.Core.Path.{ap}
-use borrow.Author.Rules.{rules}
 use Rattle.directory.specs.File.{entry_width, width_in}
 use Rattle.register.proofs.width_at.Goals as goal
 

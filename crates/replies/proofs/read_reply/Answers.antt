@@ -1,13 +1,13 @@
 -- `replies::read_reply` meets its contract: the slots stand behind the five numbers. Assumes nothing.
-use Prim.Native.Nat.{ℕ, ◌-◌, ◌≤◌}
+use Prim.Native.Nat.{ℕ}
 use native.Mathlib.Omega.{arith}
 use mathlib.Core.Path.{◌≡◌, refl, ap, ◌∙◌}
 use mathlib.Core.List.{List, [], ◌∷◌, ◌++◌, map, flatten}
 use lib.ListN.{length, get_or}
 use borrow.Author.Rules.{rules}
-use Rattle.limits.specs.Limits.{most_tests, read_numbers}
+use Rattle.limits.specs.Limits.{most_tests}
 use Rattle.basis.specs.Lists.{below}
-use Rattle.basis.proofs.Buffers.{Filled, filled_nothing}
+use Rattle.basis.proofs.Buffers.{filled_nothing}
 use Rattle.query.specs.Tests.{empty_slot}
 use Rattle.replies.specs.Replies.{read_reply}
 use Rattle.replies.proofs.Behind.{behind, slot_at, each_slot, slot_more}

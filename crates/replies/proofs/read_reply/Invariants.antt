@@ -1,16 +1,12 @@
 -- What the loop of `read_reply` keeps, and what each turn makes less.
-use Prim.Native.Nat.{ℕ, ◌-◌, ◌≤◌}
-use native.Mathlib.Omega.{arith}
-use mathlib.Core.Path.{◌≡◌, refl, ap, ◌∙◌}
-use mathlib.Core.List.{List, [], ◌∷◌, ◌++◌, map, flatten}
-use lib.ListN.{length, get_or}
-use borrow.Author.Rules.{rules}
+use Prim.Native.Nat.{◌-◌, ◌≤◌}
+use mathlib.Core.Path.{◌≡◌}
+use mathlib.Core.List.{map, flatten}
+use lib.ListN.{length}
 use Rattle.limits.specs.Limits.{most_tests, read_numbers}
 use Rattle.basis.specs.Lists.{below}
-use Rattle.basis.proofs.Buffers.{Filled, filled_nothing}
-use Rattle.query.specs.Tests.{empty_slot}
-use Rattle.replies.specs.Replies.{read_reply}
-use Rattle.replies.proofs.Behind.{behind, slot_at, each_slot, slot_more}
+use Rattle.basis.proofs.Buffers.{Filled}
+use Rattle.replies.proofs.Behind.{slot_at}
 use Rattle.replies.proofs.read_reply.Given as goal
 
 abbrev pub invariant-loop-t : goal.invariant-loop-t

@@ -1,12 +1,12 @@
 -- `replies::scanned_reply` meets its contract: the counts stand behind the five numbers. Assumes nothing.
-use Prim.Native.Nat.{ℕ, ◌-◌, ◌≤◌}
+use Prim.Native.Nat.{ℕ}
 use native.Mathlib.Omega.{arith}
 use mathlib.Core.Path.{◌≡◌, refl, ap, ◌∙◌}
 use mathlib.Core.List.{List, [], ◌∷◌, ◌++◌, map}
 use lib.ListN.{length, get_or}
-use Rattle.limits.specs.Limits.{most_tests, scan_numbers}
+use Rattle.limits.specs.Limits.{most_tests}
 use Rattle.basis.specs.Lists.{below}
-use Rattle.basis.proofs.Buffers.{Filled, filled_nothing, filled_element}
+use Rattle.basis.proofs.Buffers.{filled_nothing, filled_element}
 use borrow.Author.Rules.{rules}
 use Rattle.replies.specs.Replies.{scan_reply}
 use Rattle.replies.proofs.Behind.{behind, each_number}

@@ -1,15 +1,11 @@
 -- What the loop of `scanned_reply` keeps, and what each turn makes less.
-use Prim.Native.Nat.{ℕ, ◌-◌, ◌≤◌}
-use native.Mathlib.Omega.{arith}
-use mathlib.Core.Path.{◌≡◌, refl, ap, ◌∙◌}
-use mathlib.Core.List.{List, [], ◌∷◌, ◌++◌, map}
+use Prim.Native.Nat.{◌-◌, ◌≤◌}
+use mathlib.Core.Path.{◌≡◌}
+use mathlib.Core.List.{map}
 use lib.ListN.{length, get_or}
 use Rattle.limits.specs.Limits.{most_tests, scan_numbers}
 use Rattle.basis.specs.Lists.{below}
-use Rattle.basis.proofs.Buffers.{Filled, filled_nothing, filled_element}
-use borrow.Author.Rules.{rules}
-use Rattle.replies.specs.Replies.{scan_reply}
-use Rattle.replies.proofs.Behind.{behind, each_number}
+use Rattle.basis.proofs.Buffers.{Filled}
 use Rattle.replies.proofs.scanned_reply.Given as goal
 
 abbrev pub invariant-loop-t : goal.invariant-loop-t

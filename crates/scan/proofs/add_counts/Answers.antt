@@ -1,10 +1,7 @@
 -- `scan::add_counts` meets its contract: the counts passed are sums, and those ahead are as they were. Assumes nothing.
-use Prim.Native.Nat.{◌+◌, ◌-◌, ◌≤◌}
 use native.Mathlib.Omega.{arith}
 use mathlib.Core.Path.{◌≡◌}
-use lib.ListN.{get_or}
 use Rattle.limits.specs.Limits.{most_tests}
-use Rattle.basis.specs.Sweeps.{Swept}
 use Rattle.basis.proofs.FrontSweeps.{swept_next}
 use Rattle.basis.proofs.Sweeps.{swept_nothing}
 use Rattle.scan.proofs.add_counts.Goals as goal

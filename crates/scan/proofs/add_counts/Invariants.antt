@@ -1,12 +1,8 @@
 -- What the loop of `add_counts` keeps, and what each turn makes less.
 use Prim.Native.Nat.{◌+◌, ◌-◌, ◌≤◌}
-use native.Mathlib.Omega.{arith}
-use mathlib.Core.Path.{◌≡◌}
 use lib.ListN.{get_or}
 use Rattle.limits.specs.Limits.{most_tests}
 use Rattle.basis.specs.Sweeps.{Swept}
-use Rattle.basis.proofs.FrontSweeps.{swept_next}
-use Rattle.basis.proofs.Sweeps.{swept_nothing}
 use Rattle.scan.proofs.add_counts.Given as goal
 
 abbrev pub invariant-loop-t : goal.invariant-loop-t

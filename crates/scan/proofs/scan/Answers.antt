@@ -2,10 +2,8 @@
 -- rows are scanned. Assumes nothing.
 use Prim.Native.Nat.{◌≤◌}
 use mathlib.Core.Path.{◌≡◌, sym, ap, ◌∙◌}
-use borrow.Author.Rules.{rules}
 use Rattle.limits.specs.Limits.{most_rows}
 use Rattle.register.specs.declared.Opened.TheVariants.{Register}
-use Rattle.register.specs.declared.Shape.{Shape}
 use Rattle.register.specs.Answers.{refusal_of}
 use Rattle.register.proofs.Fit.{few_rows_as_opened}
 use Rattle.asking.specs.Refusals.{asked_of}

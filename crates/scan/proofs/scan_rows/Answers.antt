@@ -1,9 +1,8 @@
 -- `scan::scan_rows` meets its contract: segment after segment, what is added up and put down is the schedule's of the rows done.
 -- Assumes nothing.
-use Prim.Native.Nat.{ℕ, ◌-◌, ◌≤◌, ◌<◌}
+use Prim.Native.Nat.{ℕ, ◌≤◌, ◌<◌}
 use native.Mathlib.Omega.{arith}
 use mathlib.Core.Path.{◌≡◌, refl}
-use borrow.Author.Rules.{rules}
 use lib.ListN.{length}
 use Rattle.limits.specs.Limits.{most_rows, widest}
 use Rattle.directory.specs.File.{rows_in, width_in}
@@ -12,7 +11,7 @@ use Rattle.query.specs.Tests.{test_at}
 use Rattle.scan.proofs.WithinBounds.{found_rows, ones_at_most, counts_small, sums_small, matches_at_most, room_for_segment}
 use Rattle.asking.proofs.Sizes.{Eighths, in_eighths}
 use Rattle.scan.proofs.AllRows.{all_scanned, all_put}
-use Rattle.scan.proofs.RowsSoFar.{SoFar, nothing_yet, one_more_segment}
+use Rattle.scan.proofs.RowsSoFar.{nothing_yet, one_more_segment}
 use Rattle.scan.proofs.scan_rows.Goals as goal
 use Rattle.scan.proofs.scan_rows.Goals.{At-loop-first}
 
@@ -105,5 +104,8 @@ sum_of-total-requires c =
 pub returns : goal.returns
 returns c =
     let known = fit (goal.at.returns c).At-loop-first in
-    record { answer = all_scanned _ _ _ _ _ known.0 (sized (goal.at.returns c).At-loop-first) c.requires.judged.few known.2 _ _ _ _ _ c.loop-first.invariant
-          c.loop-first-test.false _ c.sum_of-total.ensures refl; left = all_put _ _ _ _ _ known.0 (sized (goal.at.returns c).At-loop-first) c.requires.judged.few known.2 _ _ _ _ _ c.loop-first.invariant c.loop-first-test.false }
+    record {
+      answer = all_scanned _ _ _ _ _ known.0 (sized (goal.at.returns c).At-loop-first) c.requires.judged.few known.2 _ _ _ _ _ c.loop-first.invariant
+          c.loop-first-test.false _ c.sum_of-total.ensures refl;
+      left = all_put _ _ _ _ _ known.0 (sized (goal.at.returns c).At-loop-first) c.requires.judged.few known.2 _ _ _ _ _ c.loop-first.invariant c.loop-first-test.false;
+    }

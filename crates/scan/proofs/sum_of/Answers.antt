@@ -1,5 +1,5 @@
 -- `scan::sum_of` meets its contract: the total is the sum of the counts passed, each of which four bytes hold. Assumes nothing.
-use Prim.Native.Nat.{◌*◌, ℕ, ◌+◌, ◌-◌, ◌≤◌}
+use Prim.Native.Nat.{◌*◌, ℕ, ◌+◌}
 use native.Mathlib.Omega.{arith}
 use native.Mathlib.Numerals.{add-one}
 use mathlib.Core.Path.{◌≡◌, refl, ap, ◌∙◌}

@@ -1,12 +1,9 @@
 -- What the loop of `sum_of` keeps, and what each turn makes less.
-use Prim.Native.Nat.{◌*◌, ℕ, ◌+◌, ◌-◌, ◌≤◌}
-use native.Mathlib.Omega.{arith}
-use native.Mathlib.Numerals.{add-one}
-use mathlib.Core.Path.{◌≡◌, refl, ap, ◌∙◌}
+use Prim.Native.Nat.{◌-◌, ◌≤◌}
+use mathlib.Core.Path.{◌≡◌}
 use lib.ListN.{get_or}
-use Rattle.limits.specs.Limits.{most_rows, most_slices, most_tests}
+use Rattle.limits.specs.Limits.{most_tests}
 use Rattle.basis.specs.Lists.{sum, below}
-use Rattle.basis.proofs.Lists.{sum_one_more, sum_at_most}
 use Rattle.scan.proofs.sum_of.Given as goal
 
 abbrev pub invariant-loop-t : goal.invariant-loop-t

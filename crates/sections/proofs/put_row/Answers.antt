@@ -3,7 +3,6 @@ use native.Mathlib.Omega.{arith}
 use mathlib.Core.Path.{sym, ◌∙◌}
 use Rattle.sections.proofs.OneMore.{marked_line, unmarked_line}
 use Rattle.pieces.proofs.Writing.{wrote_nothing}
-use borrow.Author.Rules.{rules}
 use Rattle.sections.proofs.put_row.Goals as goal
 
 pub returns-then-is_marked : goal.returns-then-is_marked

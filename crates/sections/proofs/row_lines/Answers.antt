@@ -1,11 +1,8 @@
 -- `sections::row_lines` meets its contract: the lines of the rows passed are written. Assumes nothing.
-use Prim.Native.Nat.{◌+◌, ◌-◌, ◌*◌, ◌≤◌}
 use native.Mathlib.Omega.{arith}
 use mathlib.Core.Path.{◌≡◌}
 use mathlib.Core.List.{flatten}
-use Rattle.limits.specs.Limits.{longest_line}
 use Rattle.bits.specs.Marked.{marked_below}
-use Rattle.pieces.specs.Pieces.{Wrote}
 use Rattle.sections.specs.Sections.{row_lines}
 use Rattle.pieces.proofs.Writing.{same_room, wrote_nothing, written_then}
 use Rattle.sections.proofs.OneMore.{row_more}

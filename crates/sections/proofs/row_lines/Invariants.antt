@@ -1,15 +1,9 @@
 -- What the loop of `row_lines` keeps, and what each turn makes less.
 use Prim.Native.Nat.{◌+◌, ◌-◌, ◌*◌, ◌≤◌}
-use native.Mathlib.Omega.{arith}
-use mathlib.Core.Path.{◌≡◌}
-use mathlib.Core.List.{flatten}
 use Rattle.limits.specs.Limits.{longest_line}
 use Rattle.bits.specs.Marked.{marked_below}
 use Rattle.pieces.specs.Pieces.{Wrote}
 use Rattle.sections.specs.Sections.{row_lines}
-use Rattle.pieces.proofs.Writing.{same_room, wrote_nothing, written_then}
-use Rattle.sections.proofs.OneMore.{row_more}
-use Rattle.register.proofs.Fit.{few_rows_as_opened}
 use Rattle.sections.proofs.row_lines.Given as goal
 
 abbrev pub invariant-loop-row : goal.invariant-loop-row

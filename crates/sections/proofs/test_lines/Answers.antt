@@ -1,12 +1,10 @@
 -- `sections::test_lines` meets its contract: the lines of the tests passed are written. Assumes nothing.
-use Prim.Native.Nat.{ℕ, ◌+◌, ◌-◌, ◌*◌, ◌≤◌}
+use Prim.Native.Nat.{ℕ, ◌*◌, ◌≤◌}
 use native.Mathlib.Omega.{arith}
 use mathlib.Core.Path.{◌≡◌, ap, ap₂, ◌∙◌}
 use mathlib.Core.List.{flatten}
-use borrow.Author.Rules.{rules}
 use Rattle.codes.specs.Width.{slices_of}
-use Rattle.limits.specs.Limits.{most_rows, most_slices, longest_line}
-use Rattle.pieces.specs.Pieces.{Wrote}
+use Rattle.limits.specs.Limits.{most_rows, most_slices}
 use Rattle.sections.specs.Sections.{test_lines}
 use Rattle.pieces.proofs.Writing.{same_room, wrote_nothing, written_then}
 use Rattle.sections.proofs.OneMore.{test_more}

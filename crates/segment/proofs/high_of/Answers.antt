@@ -2,7 +2,6 @@
 use Prim.Native.Nat.{◌+◌, ◌-◌, ◌<◌}
 use native.Mathlib.Omega.{arith}
 use mathlib.Core.Path.{◌≡◌, sym, ◌∙◌}
-use borrow.Author.Rules.{rules}
 use lib.Pow.{pow_pos}
 use Rattle.codes.specs.Bytes.{byte_of}
 use Rattle.codes.specs.Pad.{high_of}
@@ -17,17 +16,15 @@ high_here : (c : After-unit_of) →
     let a = c.args in
     c.wide64.result + (c.unit_of.result - 1) ≡ high_of a.width a.slice (byte_of a.width a.literal a.slice)
 high_here c =
-    let sliced = c in
-    let a = sliced.args in
-    rw (c.wide64.ensures.same, c.unit_of.ensures, sliced.byte_of-low.ensures)
-    (sym (high_last a.width a.slice _ (omega (arith, sliced.slices_of.ensures, c.if-slice-slices_of.true))))
+    let a = c.args in
+    rw (c.wide64.ensures.same, c.unit_of.ensures, c.byte_of-low.ensures)
+    (sym (high_last a.width a.slice _ (omega (arith, c.slices_of.ensures, c.if-slice-slices_of.true))))
 
 is_a_byte : (c : After-unit_of) →
     let a = c.args in
     high_of a.width a.slice (byte_of a.width a.literal a.slice) < 256
 is_a_byte c =
-    let start = c in
-    high_is_a_byte start.args.width start.args.literal start.args.slice start.requires.fit.small start.requires.there
+    high_is_a_byte c.args.width c.args.literal c.args.slice c.requires.fit.small c.requires.there
 
 pub overflow_add-slice : goal.overflow_add-slice
 overflow_add-slice c = omega (arith, few_slices_of c.args.width c.requires.fit.narrow)
@@ -46,7 +43,6 @@ returns-then-slice-slices_of c = high_here c
 
 pub returns-else-slice-slices_of : goal.returns-else-slice-slices_of
 returns-else-slice-slices_of c =
-    let start = c in
     let slices = c.slices_of.ensures in
     c.byte_of-low.ensures
-    ∙ sym (high_before start.args.width start.args.slice _ (omega (arith, start.requires.there, c.if-slice-slices_of.false)))
+    ∙ sym (high_before c.args.width c.args.slice _ (omega (arith, c.requires.there, c.if-slice-slices_of.false)))

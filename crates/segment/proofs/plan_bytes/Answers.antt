@@ -1,14 +1,10 @@
 -- `segment::plan_bytes` meets its contract: the low and the high bytes of the slices passed stand from the base on. Assumes nothing.
-use Prim.Native.Nat.{◌+◌, ◌-◌, ◌≤◌, ◌<◌}
+use Prim.Native.Nat.{◌+◌, ◌<◌}
 use native.Mathlib.Omega.{arith}
 use mathlib.Core.Path.{◌≡◌}
-use borrow.Author.Rules.{rules}
 use Rattle.limits.specs.Limits.{plan_places}
 use Rattle.codes.specs.Width.{slices_of}
-use Rattle.codes.specs.Bytes.{byte_of}
-use Rattle.codes.specs.Pad.{high_of}
 use Rattle.codes.proofs.Width.{few_slices_of}
-use Rattle.basis.specs.Sweeps.{Swept}
 use Rattle.basis.proofs.Sweeps.{swept_nothing, swept_one_more}
 use Rattle.segment.proofs.plan_bytes.Goals as goal
 use Rattle.segment.proofs.plan_bytes.Goals.{In-loop-j}
@@ -31,8 +27,7 @@ bounds-lows-base c = within (goal.at.bounds-lows-base c).In-loop-j
 
 pub high_of-requires : goal.high_of-requires
 high_of-requires c =
-    let turn = c in
-    record { fit = turn.requires.fit; there = omega (arith, turn.loop-j.invariant.1) }
+    record { fit = c.requires.fit; there = omega (arith, c.loop-j.invariant.1) }
 
 pub overflow_add-highs : goal.overflow_add-highs
 overflow_add-highs c = omega (arith, within (goal.at.overflow_add-highs c).In-loop-j)
@@ -42,9 +37,8 @@ bounds-highs-base c = within (goal.at.bounds-highs-base c).In-loop-j
 
 pub loop-j-preserved : goal.loop-j-preserved
 loop-j-preserved c =
-    let turn = c in
-    let (few, counted, low, high) = turn.loop-j.invariant in
-    let pre = turn.requires in (
+    let (few, counted, low, high) = c.loop-j.invariant in
+    let pre = c.requires in (
       omega arith,
       counted,
       swept_one_more _ _ _ _ _ _ low (omega (arith, within (goal.at.loop-j-preserved c).In-loop-j, pre.all_lows)) c.byte_of.ensures,

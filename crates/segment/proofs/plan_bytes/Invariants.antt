@@ -1,15 +1,10 @@
 -- What the loop of `plan_bytes` keeps, and what each turn makes less.
-use Prim.Native.Nat.{◌+◌, ◌-◌, ◌≤◌, ◌<◌}
-use native.Mathlib.Omega.{arith}
+use Prim.Native.Nat.{◌-◌, ◌≤◌}
 use mathlib.Core.Path.{◌≡◌}
-use borrow.Author.Rules.{rules}
-use Rattle.limits.specs.Limits.{plan_places}
 use Rattle.codes.specs.Width.{slices_of}
 use Rattle.codes.specs.Bytes.{byte_of}
 use Rattle.codes.specs.Pad.{high_of}
-use Rattle.codes.proofs.Width.{few_slices_of}
 use Rattle.basis.specs.Sweeps.{Swept}
-use Rattle.basis.proofs.Sweeps.{swept_nothing, swept_one_more}
 use Rattle.segment.proofs.plan_bytes.Given as goal
 
 abbrev pub invariant-loop-j : goal.invariant-loop-j

@@ -1,11 +1,9 @@
 -- `segment::plan_of` meets its contract: the plan of the tests passed stands, and each turn puts the next test's behind it.
 -- Assumes nothing.
-use Prim.Native.Nat.{ℕ, ◌-◌, ◌≤◌}
+use Prim.Native.Nat.{ℕ}
 use native.Mathlib.Omega.{arith}
 use mathlib.Core.Path.{◌≡◌, refl, ap, subst, ◌∙◌}
-use borrow.Author.Rules.{rules}
-use lib.ListN.{length, length-set}
-use Rattle.limits.specs.Limits.{most_tests, plan_places}
+use lib.ListN.{length-set}
 use Rattle.codes.specs.Width.{slices_of}
 use Rattle.segment.specs.Steps.{FitLiteral, Planned}
 use Rattle.register.proofs.Fit.{width_as_opened}
@@ -16,9 +14,7 @@ use Rattle.segment.proofs.plan_of.Goals.{After-literal_of-literal}
 -- the literal at hand fits its column
 literal_here : (c : After-literal_of-literal) → FitLiteral c.width_at-width.result c.literal_of-literal.result
 literal_here c =
-    let turn = c in
-    let start = turn in
-    rw (c.width_at-width.ensures, c.literal_of-literal.ensures) (fit_literal _ _ _ _ start.requires _ turn.loop-t-test.true)
+    rw (c.width_at-width.ensures, c.literal_of-literal.ensures) (fit_literal _ _ _ _ c.requires _ c.loop-t-test.true)
 
 pub loop-t-init : goal.loop-t-init
 loop-t-init c = (omega arith, planned_nothing _ _ _ _ _ _, (refl, refl, refl, refl))
@@ -28,42 +24,32 @@ bounds-tests-t c = omega (arith, c.requires.few)
 
 pub width_at-width-requires : goal.width_at-width-requires
 width_at-width-requires c =
-    let start = c in
-    record { opened = start.requires.opened; there = start.requires.columns _ c.loop-t-test.true }
+    record { opened = c.requires.opened; there = c.requires.columns _ c.loop-t-test.true }
 
 pub offset_at-requires : goal.offset_at-requires
 offset_at-requires c =
-    let start = c in
-    record { opened = start.requires.opened; there = start.requires.columns _ c.loop-t-test.true }
+    record { opened = c.requires.opened; there = c.requires.columns _ c.loop-t-test.true }
 
 pub plan_bytes-requires : goal.plan_bytes-requires
 plan_bytes-requires c =
-    let width = c in
-    let turn = width in
-    let start = turn in
-    let long = turn.loop-t.invariant.2 in
+    let long = c.loop-t.invariant.2 in
     record {
       fit = literal_here (goal.at.plan_bytes-requires c).After-literal_of-literal;
-      room = omega (arith, start.requires.few, turn.loop-t-test.true);
+      room = omega (arith, c.requires.few, c.loop-t-test.true);
       all_lows = long.2;
       all_highs = long.3;
     }
 
 pub loop-t-preserved : goal.loop-t-preserved
 loop-t-preserved c =
-    let slices = c in
-    let literal = slices in
-    let width = literal in
-    let turn = width in
-    let start = turn in
-    let long = turn.loop-t.invariant.2 in (
-      omega (arith, turn.loop-t-test.true),
-      planned_one_more _ _ _ _ _ _ _ _ _ _ _ turn.loop-t.invariant.1
-          (λ u h. (width_as_opened _ _ start.requires.opened _ (start.requires.columns u (omega (arith, turn.loop-t-test.true)))).1)
-          (omega (arith, start.requires.few, turn.loop-t-test.true)) (omega (arith, start.requires.few, turn.loop-t-test.true))
-          slices.offset_at.ensures (slices.slices_of.ensures ∙ ap slices_of width.width_at-width.ensures)
-          (rw (width.width_at-width.ensures, literal.literal_of-literal.ensures) at c.plan_bytes.ensures.low)
-          (rw (width.width_at-width.ensures, literal.literal_of-literal.ensures) at c.plan_bytes.ensures.high),
+    let long = c.loop-t.invariant.2 in (
+      omega (arith, c.loop-t-test.true),
+      planned_one_more _ _ _ _ _ _ _ _ _ _ _ c.loop-t.invariant.1
+          (λ u h. (width_as_opened _ _ c.requires.opened _ (c.requires.columns u (omega (arith, c.loop-t-test.true)))).1)
+          (omega (arith, c.requires.few, c.loop-t-test.true)) (omega (arith, c.requires.few, c.loop-t-test.true))
+          c.offset_at.ensures (c.slices_of.ensures ∙ ap slices_of c.width_at-width.ensures)
+          (rw (c.width_at-width.ensures, c.literal_of-literal.ensures) at c.plan_bytes.ensures.low)
+          (rw (c.width_at-width.ensures, c.literal_of-literal.ensures) at c.plan_bytes.ensures.high),
       (
         rw length-set long.0,
         rw length-set long.1,

@@ -1,14 +1,9 @@
 -- What the loop of `plan_of` keeps, and what each turn makes less.
-use Prim.Native.Nat.{ℕ, ◌-◌, ◌≤◌}
-use native.Mathlib.Omega.{arith}
-use mathlib.Core.Path.{◌≡◌, refl, ap, subst, ◌∙◌}
-use borrow.Author.Rules.{rules}
-use lib.ListN.{length, length-set}
+use Prim.Native.Nat.{◌-◌, ◌≤◌}
+use mathlib.Core.Path.{◌≡◌}
+use lib.ListN.{length}
 use Rattle.limits.specs.Limits.{most_tests, plan_places}
-use Rattle.codes.specs.Width.{slices_of}
-use Rattle.segment.specs.Steps.{FitLiteral, Planned}
-use Rattle.register.proofs.Fit.{width_as_opened}
-use Rattle.segment.proofs.Planning.{fit_literal, planned_nothing, planned_one_more}
+use Rattle.segment.specs.Steps.{Planned}
 use Rattle.segment.proofs.plan_of.Given as goal
 
 abbrev pub invariant-loop-t : goal.invariant-loop-t

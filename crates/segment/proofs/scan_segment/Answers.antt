@@ -9,7 +9,6 @@ use Prim.Native.Nat.{ℕ, ◌+◌, ◌-◌, ◌*◌, ◌≤◌, ◌<◌}
 use native.Mathlib.Omega.{arith}
 use native.Mathlib.Numerals.{add-one}
 use mathlib.Core.Path.{◌≡◌, refl, sym}
-use mathlib.Core.List.{List}
 use mathlib.Core.Bool.{true}
 use lib.ListN.{length, get_or, take, drop}
 use Rattle.limits.specs.Limits.{longest_segment}
@@ -117,25 +116,25 @@ tests-preserved c =
     let next = c.tests-test.true in (
       omega arith,
       elim c.if-j-slices.branch [
-        then-j-slices+else-rows-test+then-open-gt0 w ↦
-          let some : 0 < c.args.n = omega (arith, w.rows.invariant.0, w.rows.invariant.1, w.if-open-gt0.true) in
-          let all : w.rows.r ≡ c.args.n = omega (arith, w.rows.invariant.0, w.rows-test.false) in
-          same_progress w.standings-is w.counts-is w.closed-is
-          (taken (so_far turn) next (fit start)
-          (counts_it turn w.if-j-slices.true w.rows.«open» w.rows.r w.rows.invariant.2 all w.if-open-gt0.true) w.step.ensures
-          (long turn w.if-j-slices.true some)
-          (λ k h stands.
-          steps_right c.requires.fit c.requires.plan c.tests.t c.slices.j next (within turn w.if-j-slices.true) (fit start).there _ k h stands)
-          refl)
-      | then-j-slices+else-rows-test+else-open-gt0 w ↦
-          same_progress w.standings-is w.counts-is w.closed-is
-          (passed_over (so_far turn) next
-          (none_open (so_far turn) next w.rows.«open» w.rows.r w.rows.invariant.2 (omega (arith, w.rows.invariant.0, w.rows-test.false))
-          w.if-open-gt0.false))
-      | else-j-slices w ↦
-          same_progress w.standings-is w.counts-is w.closed-is
-          (passed_over (so_far turn) next
-          (takes_within (work_at start) c.tests.t c.slices.j (omega (arith, w.if-j-slices.false, c.requires.plan.so_many c.tests.t next))))
+        | then-j-slices+else-rows-test+then-open-gt0 w ↦
+            let some : 0 < c.args.n = omega (arith, w.rows.invariant.0, w.rows.invariant.1, w.if-open-gt0.true) in
+            let all : w.rows.r ≡ c.args.n = omega (arith, w.rows.invariant.0, w.rows-test.false) in
+            same_progress w.standings-is w.counts-is w.closed-is
+            (taken (so_far turn) next (fit start)
+            (counts_it turn w.if-j-slices.true w.rows.«open» w.rows.r w.rows.invariant.2 all w.if-open-gt0.true) w.step.ensures
+            (long turn w.if-j-slices.true some)
+            (λ k h stands.
+            steps_right c.requires.fit c.requires.plan c.tests.t c.slices.j next (within turn w.if-j-slices.true) (fit start).there _ k h stands)
+            refl)
+        | then-j-slices+else-rows-test+else-open-gt0 w ↦
+            same_progress w.standings-is w.counts-is w.closed-is
+            (passed_over (so_far turn) next
+            (none_open (so_far turn) next w.rows.«open» w.rows.r w.rows.invariant.2 (omega (arith, w.rows.invariant.0, w.rows-test.false))
+            w.if-open-gt0.false))
+        | else-j-slices w ↦
+            same_progress w.standings-is w.counts-is w.closed-is
+            (passed_over (so_far turn) next
+            (takes_within (work_at start) c.tests.t c.slices.j (omega (arith, w.if-j-slices.false, c.requires.plan.so_many c.tests.t next))))
       ],
     )
 
@@ -150,11 +149,11 @@ ended : (c : Left-slices) →
 ended c =
     let fits = segment_fits c.requires.fit (omega arith) in
     elim c.slices-test.branch [
-      else-slices-test w ↦
-        ended_after_four fits w.slices-test.false (same_progress w.standings-is w.counts-is refl c.slices.invariant.1)
-    | then-slices-test+else-tests-test+then-closed w ↦
-        ended_closed fits (omega (arith, w.tests.invariant.0, w.tests-test.false))
-        (same_progress w.standings-is w.counts-is (sym w.if-closed.true) w.tests.invariant.1)
+      | else-slices-test w ↦
+          ended_after_four fits w.slices-test.false (same_progress w.standings-is w.counts-is refl c.slices.invariant.1)
+      | then-slices-test+else-tests-test+then-closed w ↦
+          ended_closed fits (omega (arith, w.tests.invariant.0, w.tests-test.false))
+          (same_progress w.standings-is w.counts-is (sym w.if-closed.true) w.tests.invariant.1)
     ]
 
 pub last_all-requires : goal.last_all-requires

@@ -15,7 +15,6 @@ use Rattle.slicing.proofs.write_block.Goals.{After-slices_of-slices}
 passed : (c : After-slices_of-slices) →
     Counted c.args.widths.now (c.loop-column.slices + c.slices_of-slices.result) (c.loop-column.column + 1)
 passed c =
-    let c = c in
     one_more_counted _ c.requires.fit_widths _ _ _ c.loop-column.invariant.0 (omega arith) c.slices_of-slices.ensures
 
 pub loop-column-init : goal.loop-column-init

@@ -1,5 +1,5 @@
 -- `standings::in_rows` meets its contract: the rows passed are 1, and what is still ahead is 0 as at first. Assumes nothing.
-use Prim.Native.Nat.{ℕ, ◌-◌, ◌≤◌, ◌<◌}
+use Prim.Native.Nat.{ℕ, ◌≤◌, ◌<◌}
 use native.Mathlib.Omega.{arith}
 use mathlib.Core.Path.{◌≡◌, refl, ◌∙◌}
 use mathlib.Core.Logic.{⊎_elim}

@@ -1,7 +1,6 @@
 -- `standings::last` meets its contract: the three strict comparisons take out what is equal to the end, the others nothing.
 -- Assumes nothing.
 use native.Mathlib.Nat.{zero-add}
-use borrow.Author.Rules.{rules}
 use Rattle.basis.proofs.FrontSweeps.{swept_alike, swept_all_kept}
 use Rattle.standings.proofs.last.Goals as goal
 

@@ -2,7 +2,6 @@
 -- the other. Assumes nothing.
 use Prim.Native.Nat.{◌+◌}
 use native.Mathlib.Nat.{zero-add}
-use borrow.Author.Rules.{rules}
 use lib.Dec.{eqb}
 use lib.ListN.{get_or}
 use Rattle.basis.proofs.FrontSweeps.{swept_from_front, swept_alike, swept_twice, swept_all_kept}

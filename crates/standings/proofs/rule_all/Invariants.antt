@@ -1,11 +1,8 @@
 -- What the loop of `rule_all` keeps, and what each turn makes less.
 use Prim.Native.Nat.{◌-◌, ◌≤◌}
-use native.Mathlib.Omega.{arith}
-use mathlib.Core.Path.{◌≡◌}
 use Rattle.standings.specs.Standings.{rules_out_kept}
 use Rattle.basis.specs.Sweeps.{Swept}
 use Rattle.standings.specs.TakenOut.{taken_out_by_all}
-use Rattle.standings.proofs.TakenOut.{none_taken_out, one_more_takes_out}
 use Rattle.standings.proofs.rule_all.Given as goal
 
 abbrev pub invariant-loop-t : goal.invariant-loop-t

@@ -1,15 +1,9 @@
 -- `standings::step` meets its contract: a turn stores the standing after the row's byte, made from the standing that the
 -- row had at first, since no earlier turn reaches it. Assumes nothing.
-use Prim.Native.Nat.{ℕ, ◌+◌, ◌-◌, ◌≤◌}
 use native.Mathlib.Omega.{arith}
 use mathlib.Core.Path.{◌≡◌, ◌∙◌}
-use mathlib.Core.List.{List}
-use borrow.Author.Rules.{rules}
-use lib.ListN.{length, get_or}
-use Rattle.standings.specs.Standings.{stepped_row}
-use Rattle.basis.specs.Sweeps.{Swept}
+use lib.ListN.{length}
 use Rattle.basis.proofs.Sweeps.{swept_nothing, swept_one_more, swept_ahead}
-use Rattle.standings.proofs.step.Invariants.{stepped_by}
 use Rattle.standings.proofs.step.Goals as goal
 
 pub loop-r-init : goal.loop-r-init

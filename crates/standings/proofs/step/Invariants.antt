@@ -1,13 +1,9 @@
 -- What the loop of `step` keeps, and what each turn makes less.
 use Prim.Native.Nat.{ℕ, ◌+◌, ◌-◌, ◌≤◌}
-use native.Mathlib.Omega.{arith}
-use mathlib.Core.Path.{◌≡◌, ◌∙◌}
 use mathlib.Core.List.{List}
-use borrow.Author.Rules.{rules}
 use lib.ListN.{length, get_or}
 use Rattle.standings.specs.Standings.{stepped_row}
 use Rattle.basis.specs.Sweeps.{Swept}
-use Rattle.basis.proofs.Sweeps.{swept_nothing, swept_one_more, swept_ahead}
 use Rattle.standings.proofs.step.Given as goal
 
 abbrev pub stepped_by : List ℕ → List ℕ → ℕ → ℕ → ℕ → ℕ → ℕ

@@ -1,16 +1,9 @@
 -- `standings::take_out` meets its contract: a turn stores what is left of the next row, made from what it was at first.
 -- Assumes nothing.
-use Prim.Native.Nat.{ℕ, ◌+◌, ◌-◌, ◌≤◌}
 use native.Mathlib.Omega.{arith}
 use mathlib.Core.Path.{◌≡◌, ◌∙◌}
-use mathlib.Core.List.{List}
-use borrow.Author.Rules.{rules}
-use lib.ListN.{get_or}
-use Rattle.basis.specs.Sweeps.{Swept}
-use Rattle.standings.specs.TakenOut.{taken_out_by}
 use Rattle.basis.proofs.Sweeps.{swept_nothing}
 use Rattle.basis.proofs.FrontSweeps.{swept_next}
-use Rattle.standings.proofs.take_out.Invariants.{left_by}
 use Rattle.standings.proofs.take_out.Goals as goal
 
 pub loop-r-init : goal.loop-r-init

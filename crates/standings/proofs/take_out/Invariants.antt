@@ -1,14 +1,9 @@
 -- What the loop of `take_out` keeps, and what each turn makes less.
 use Prim.Native.Nat.{ℕ, ◌+◌, ◌-◌, ◌≤◌}
-use native.Mathlib.Omega.{arith}
-use mathlib.Core.Path.{◌≡◌, ◌∙◌}
 use mathlib.Core.List.{List}
-use borrow.Author.Rules.{rules}
 use lib.ListN.{get_or}
 use Rattle.basis.specs.Sweeps.{Swept}
 use Rattle.standings.specs.TakenOut.{taken_out_by}
-use Rattle.basis.proofs.Sweeps.{swept_nothing}
-use Rattle.basis.proofs.FrontSweeps.{swept_next}
 use Rattle.standings.proofs.take_out.Given as goal
 
 abbrev pub left_by : List ℕ → ℕ → ℕ → List ℕ → ℕ → ℕ
