@@ -77,6 +77,6 @@ in_eighths size fit =
       most = omega (arith, same, known.2);
     }
 
-pub starts_on_a_byte : (size : ℕ) (in_eights_lem : Eighths size) (i : ℕ) → i * size ≡ 8 * (i * in_eights_lem.eighths)
-starts_on_a_byte size in_eights_lem i =
-    ap (λ (n : ℕ). i * n) in_eights_lem.whole ∙ mul_left_comm i 8 in_eights_lem.eighths
+pub starts_on_a_byte : (size : ℕ) (whole : Eighths size) (i : ℕ) → i * size ≡ 8 * (i * whole.eighths)
+starts_on_a_byte size whole i =
+    ap (λ (n : ℕ). i * n) whole.whole ∙ mul_left_comm i 8 whole.eighths

@@ -2,12 +2,12 @@
 -- `ensures` as the check reads them: of the lifetimes κs, of what is lent, and of what was lent as it stands at exit, the reply last.
 -- A call answers nothing else, so its result r is the same in all. Assumes nothing.
 --   one_read, one_scan    said of the definitions, by what the text asks
---   one-bsl-..            a theorem for each call
+--   one_bsl_..            a theorem for each call
 use Prim.Native.Nat.{ℕ}
 use mathlib.Core.Path.{◌≡◌, sym, ap, ◌∙◌}
 use mathlib.Core.List.{List}
 use lib.ListN.{length}
-use Rattle.basis.proofs.SingleReply.{single_reply as one_of_lem}
+use Rattle.basis.proofs.SingleReply.{single_reply as alone}
 use Rattle.text.specs.declared.Asked.{Asked}
 use Rattle.text.proofs.SingleReply.{single_reply}
 use Rattle.replies.specs.Replies.{read_reply, scan_reply}
@@ -34,15 +34,15 @@ one_scan file text before after left reply other first second =
 
 pub one_bsl_open : (κs : _) (lent : _) (r : _) (exit exit' : _) → Opens κs lent r exit → Opens κs lent r exit' →
     exit.1.0.now ≡ exit'.1.0.now
-one_bsl_open κs lent r exit exit' first second = one_of_lem first second
+one_bsl_open κs lent r exit exit' first second = alone first second
 
 pub one_bsl_widths : (κs : _) (lent : _) (r : _) (exit exit' : _) → Measures κs lent r exit → Measures κs lent r exit' →
     (exit.1.1.0.now ≡ exit'.1.1.0.now) × (exit.1.0.now ≡ exit'.1.0.now)
-one_bsl_widths κs lent r exit exit' first second = (one_of_lem first.0 second.0, one_of_lem first.1 second.1)
+one_bsl_widths κs lent r exit exit' first second = (alone first.0 second.0, alone first.1 second.1)
 
 pub one_bsl_write : (κs : _) (lent : _) (r : _) (exit exit' : _) → Writes κs lent r exit → Writes κs lent r exit' →
     (exit.1.1.1.1.0.now ≡ exit'.1.1.1.1.0.now) × (exit.1.1.1.0.now ≡ exit'.1.1.1.0.now)
-one_bsl_write κs lent r exit exit' first second = (one_of_lem first.0 second.0, one_of_lem first.1 second.1)
+one_bsl_write κs lent r exit exit' first second = (alone first.0 second.0, alone first.1 second.1)
 
 pub one_bsl_read : (κs : _) (lent : _) (r : _) (exit exit' : _) → Reading κs lent r exit → Reading κs lent r exit' →
     exit.1.0.now ≡ exit'.1.0.now
@@ -54,8 +54,8 @@ one_bsl_scan κs lent r exit exit' first second = one_scan _ _ _ _ _ _ _ first s
 
 pub one_bsl_list : (κs : _) (lent : _) (r : _) (exit exit' : _) → Lists κs lent r exit → Lists κs lent r exit' →
     (exit.1.1.1.0.now ≡ exit'.1.1.1.0.now) × (exit.1.1.0.now ≡ exit'.1.1.0.now)
-one_bsl_list κs lent r exit exit' first second = (one_of_lem first.0 second.0, one_of_lem first.1 second.1)
+one_bsl_list κs lent r exit exit' first second = (alone first.0 second.0, alone first.1 second.1)
 
 pub one_bsl_lookup : (κs : _) (lent : _) (r : _) (exit exit' : _) → LooksUp κs lent r exit → LooksUp κs lent r exit' →
     (exit.1.1.1.1.0.now ≡ exit'.1.1.1.1.0.now) × (exit.1.1.1.0.now ≡ exit'.1.1.1.0.now)
-one_bsl_lookup κs lent r exit exit' first second = (one_of_lem first.0 second.0, one_of_lem first.1 second.1)
+one_bsl_lookup κs lent r exit exit' first second = (alone first.0 second.0, alone first.1 second.1)
