@@ -2,7 +2,6 @@
 // before the call, so that one that is left shows.
 ghost use Rattle.std.specs.Prelude.{◌≡◌};
 
-use libc::STDOUT_FILENO;
 use limits::{MOST_BITS, MOST_ROWS};
 use try_reading::{NOWHERE, bytes_at, number_at, part_at, room_at, rows_at};
 
@@ -16,48 +15,48 @@ const MOST_ELEMENTS: usize = 4096;
 const MOST_LISTED: usize = MOST_ROWS + 1;
 
 // A file.
-pub fn open(numbers: &[u64]) {
+pub fn open<R: Print>(rt: &R, numbers: &[u64]) {
     let mut file = [0u8; MOST_BYTES];
     let given = bytes_at(numbers, 0, &mut file);
     let file_bytes = given.count;
     if given.next != numbers.len() {
-        say_no_request();
+        say_no_request(rt);
         return;
     }
     let mut reply = [77u64; 5];
     exports::bsl_open(&file[..file_bytes], &mut reply);
-    say_5(reply);
-    end_line();
+    say_5(rt, reply);
+    end_line(rt);
 }
 
 // A file, and an output.
-pub fn widths(numbers: &[u64]) {
+pub fn widths<R: Print>(rt: &R, numbers: &[u64]) {
     let mut file = [0u8; MOST_BYTES];
     let given = bytes_at(numbers, 0, &mut file);
     let file_bytes = given.count;
     let room = room_at(numbers, given.next, MOST_ELEMENTS);
     let elements = room.elements;
     if !room.good {
-        say_no_request();
+        say_no_request(rt);
         return;
     }
     let mut out = [77u8; MOST_ELEMENTS];
-    widths_into(&file[..file_bytes], &mut out[..elements], room.lent);
+    widths_into(rt, &file[..file_bytes], &mut out[..elements], room.lent);
 }
 
-fn widths_into(file: &[u8], out: &mut [u8], lent: usize) {
+fn widths_into<R: Print>(rt: &R, file: &[u8], out: &mut [u8], lent: usize) {
     if out.len() < lent {
-        say_no_request();
+        say_no_request(rt);
         return;
     }
     let mut reply = [77u64; 4];
     exports::bsl_widths(file, &mut out[..lent], &mut reply);
-    say_4(reply);
-    say_bytes(out);
+    say_4(rt, reply);
+    say_bytes(rt, out);
 }
 
 // Rows, widths, codes, and an output.
-pub fn write(numbers: &[u64]) {
+pub fn write<R: Print>(rt: &R, numbers: &[u64]) {
     let mut widths = [0u8; MOST_ELEMENTS];
     let given = bytes_at(numbers, 1, &mut widths);
     let columns = given.count;
@@ -67,12 +66,13 @@ pub fn write(numbers: &[u64]) {
     let room = room_at(numbers, codes.next, MOST_ELEMENTS);
     let elements = room.elements;
     if !room.good {
-        say_no_request();
+        say_no_request(rt);
         return;
     }
     let rows = number_at(numbers, 0) as usize;
     let mut out = [77u8; MOST_ELEMENTS];
     write_into(
+        rt,
         rows,
         &widths[..columns],
         &numbers[from..to],
@@ -81,34 +81,41 @@ pub fn write(numbers: &[u64]) {
     );
 }
 
-fn write_into(rows: usize, widths: &[u8], codes: &[u64], out: &mut [u8], lent: usize) {
+fn write_into<R: Print>(
+    rt: &R,
+    rows: usize,
+    widths: &[u8],
+    codes: &[u64],
+    out: &mut [u8],
+    lent: usize,
+) {
     if out.len() < lent {
-        say_no_request();
+        say_no_request(rt);
         return;
     }
     let mut reply = [77u64; 4];
     exports::bsl_write(rows, widths, codes, &mut out[..lent], &mut reply);
-    say_4(reply);
-    say_bytes(out);
+    say_4(rt, reply);
+    say_bytes(rt, out);
 }
 
 // A text.
-pub fn read(numbers: &[u64]) {
+pub fn read<R: Print>(rt: &R, numbers: &[u64]) {
     let mut text = [0u8; MOST_ELEMENTS];
     let given = bytes_at(numbers, 0, &mut text);
     let text_bytes = given.count;
     if given.next != numbers.len() {
-        say_no_request();
+        say_no_request(rt);
         return;
     }
     let mut reply = [77u64; 53];
     exports::bsl_read(&text[..text_bytes], &mut reply);
-    say_53(reply);
-    end_line();
+    say_53(rt, reply);
+    end_line(rt);
 }
 
 // A file, a text, and an output.
-pub fn scan(numbers: &[u64]) {
+pub fn scan<R: Print>(rt: &R, numbers: &[u64]) {
     let mut file = [0u8; MOST_BYTES];
     let mut text = [0u8; MOST_ELEMENTS];
     let given = bytes_at(numbers, 0, &mut file);
@@ -118,11 +125,12 @@ pub fn scan(numbers: &[u64]) {
     let room = room_at(numbers, asked.next, MOST_ELEMENTS);
     let elements = room.elements;
     if !room.good {
-        say_no_request();
+        say_no_request(rt);
         return;
     }
     let mut out = [77u8; MOST_ELEMENTS];
     scan_into(
+        rt,
         &file[..file_bytes],
         &text[..text_bytes],
         &mut out[..elements],
@@ -130,71 +138,78 @@ pub fn scan(numbers: &[u64]) {
     );
 }
 
-fn scan_into(file: &[u8], text: &[u8], out: &mut [u8], lent: usize) {
+fn scan_into<R: Print>(rt: &R, file: &[u8], text: &[u8], out: &mut [u8], lent: usize) {
     if out.len() < lent {
-        say_no_request();
+        say_no_request(rt);
         return;
     }
     let mut reply = [77u64; 21];
     exports::bsl_scan(file, text, &mut out[..lent], &mut reply);
-    say_21(reply);
-    say_bytes(out);
+    say_21(rt, reply);
+    say_bytes(rt, out);
 }
 
 // Rows, bits, and an output. The largest is made only where it is asked for, as it takes long to fill.
-pub fn list(numbers: &[u64]) {
+pub fn list<R: Print>(rt: &R, numbers: &[u64]) {
     let mut bits = [0u8; MOST_BYTES];
     let given = bytes_at(numbers, 1, &mut bits);
     let count = given.count;
     let room = room_at(numbers, given.next, MOST_LISTED);
     if !room.good {
-        say_no_request();
+        say_no_request(rt);
         return;
     }
     let rows = number_at(numbers, 0) as usize;
     if room.elements <= MOST_ELEMENTS {
-        list_some(rows, &bits[..count], room.elements, room.lent);
+        list_some(rt, rows, &bits[..count], room.elements, room.lent);
     } else {
-        list_most(rows, &bits[..count], room.elements, room.lent);
+        list_most(rt, rows, &bits[..count], room.elements, room.lent);
     }
 }
 
-fn list_some(rows: usize, bits: &[u8], elements: usize, lent: usize) {
+fn list_some<R: Print>(rt: &R, rows: usize, bits: &[u8], elements: usize, lent: usize) {
     let mut out = [77u32; MOST_ELEMENTS];
-    list_front(rows, bits, &mut out, elements, lent);
+    list_front(rt, rows, bits, &mut out, elements, lent);
 }
 
-fn list_most(rows: usize, bits: &[u8], elements: usize, lent: usize) {
+fn list_most<R: Print>(rt: &R, rows: usize, bits: &[u8], elements: usize, lent: usize) {
     let mut out = [77u32; MOST_LISTED];
-    list_front(rows, bits, &mut out, elements, lent);
+    list_front(rt, rows, bits, &mut out, elements, lent);
 }
 
-fn list_front(rows: usize, bits: &[u8], out: &mut [u32], elements: usize, lent: usize) {
+fn list_front<R: Print>(
+    rt: &R,
+    rows: usize,
+    bits: &[u8],
+    out: &mut [u32],
+    elements: usize,
+    lent: usize,
+) {
     if elements <= out.len() {
-        list_into(rows, bits, &mut out[..elements], lent);
+        list_into(rt, rows, bits, &mut out[..elements], lent);
     }
 }
 
-fn list_into(rows: usize, bits: &[u8], out: &mut [u32], lent: usize) {
+fn list_into<R: Print>(rt: &R, rows: usize, bits: &[u8], out: &mut [u32], lent: usize) {
     if out.len() < lent {
-        say_no_request();
+        say_no_request(rt);
         return;
     }
     let mut reply = [77u64; 4];
     exports::bsl_list(rows, bits, &mut out[..lent], &mut reply);
-    say_4(reply);
-    say_rows(out);
+    say_4(rt, reply);
+    say_rows(rt, out);
 }
 
 // A file, a column, rows, and an output.
-pub fn lookup(numbers: &[u64]) {
+pub fn lookup<R: Print>(rt: &R, numbers: &[u64]) {
     let mut file = [0u8; MOST_BYTES];
     let mut rows = [0u32; MOST_ELEMENTS];
     let given = bytes_at(numbers, 0, &mut file);
     let behind = given.next;
     let file_bytes = given.count;
     if behind == NOWHERE {
-        say_no_request();
+        say_no_request(rt);
         return;
     }
     let asked = rows_at(numbers, behind + 1, &mut rows);
@@ -202,12 +217,13 @@ pub fn lookup(numbers: &[u64]) {
     let room = room_at(numbers, asked.next, MOST_ELEMENTS);
     let elements = room.elements;
     if !room.good {
-        say_no_request();
+        say_no_request(rt);
         return;
     }
     let column = number_at(numbers, behind) as usize;
     let mut out = [77u64; MOST_ELEMENTS];
     lookup_into(
+        rt,
         &file[..file_bytes],
         column,
         &rows[..count],
@@ -216,81 +232,92 @@ pub fn lookup(numbers: &[u64]) {
     );
 }
 
-fn lookup_into(file: &[u8], column: usize, rows: &[u32], out: &mut [u64], lent: usize) {
+fn lookup_into<R: Print>(
+    rt: &R,
+    file: &[u8],
+    column: usize,
+    rows: &[u32],
+    out: &mut [u64],
+    lent: usize,
+) {
     if out.len() < lent {
-        say_no_request();
+        say_no_request(rt);
         return;
     }
     let mut reply = [77u64; 4];
     exports::bsl_lookup(file, column, rows, &mut out[..lent], &mut reply);
-    say_4(reply);
-    say_codes(out);
+    say_4(rt, reply);
+    say_codes(rt, out);
+}
+
+// Prints bytes. What cannot be printed is missed by whoever compares.
+pub fn say<R: Print>(rt: &R, bytes: &[u8]) {
+    let _ = rt.write_all(bytes);
 }
 
 // Prints that a line is none that can be answered: its numbers are not those of a call, or too many or too large.
-pub fn say_no_request() {
-    io::write_all(STDOUT_FILENO, b" no request\n");
+pub fn say_no_request<R: Print>(rt: &R) {
+    say(rt, b" no request\n");
 }
 
 // Prints numbers, a space before each.
-fn say_numbers(numbers: &[u64]) {
+fn say_numbers<R: Print>(rt: &R, numbers: &[u64]) {
     for i in 0..numbers.len() {
-        say_number(numbers[i]);
+        say_number(rt, numbers[i]);
     }
 }
 
-fn say_4(reply: [u64; 4]) {
-    say_numbers(&reply);
+fn say_4<R: Print>(rt: &R, reply: [u64; 4]) {
+    say_numbers(rt, &reply);
 }
 
-fn say_5(reply: [u64; 5]) {
-    say_numbers(&reply);
+fn say_5<R: Print>(rt: &R, reply: [u64; 5]) {
+    say_numbers(rt, &reply);
 }
 
-fn say_21(reply: [u64; 21]) {
-    say_numbers(&reply);
+fn say_21<R: Print>(rt: &R, reply: [u64; 21]) {
+    say_numbers(rt, &reply);
 }
 
-fn say_53(reply: [u64; 53]) {
-    say_numbers(&reply);
+fn say_53<R: Print>(rt: &R, reply: [u64; 53]) {
+    say_numbers(rt, &reply);
 }
 
-fn say_number(number: u64) {
-    io::write_all(STDOUT_FILENO, b" ");
-    io::print_decimal(STDOUT_FILENO, number);
+fn say_number<R: Print>(rt: &R, number: u64) {
+    let _ = print!(rt; " {number}");
 }
 
 // Prints an output of codes, behind the reply.
-fn say_codes(out: &[u64]) {
-    say_bar();
-    say_numbers(out);
-    end_line();
+fn say_codes<R: Print>(rt: &R, out: &[u64]) {
+    say_bar(rt);
+    say_numbers(rt, out);
+    end_line(rt);
 }
 
 // The same for an output of bytes.
-fn say_bytes(out: &[u8]) {
-    say_bar();
+fn say_bytes<R: Print>(rt: &R, out: &[u8]) {
+    say_bar(rt);
     for i in 0..out.len() {
-        say_number(numbers::wide64(out[i]));
+        say_number(rt, numbers::wide64(out[i]));
     }
-    end_line();
+    end_line(rt);
 }
 
 // The same for an output of row numbers.
-fn say_rows(out: &[u32]) {
-    say_bar();
+fn say_rows<R: Print>(rt: &R, out: &[u32]) {
+    say_bar(rt);
     for i in 0..out.len() {
-        say_number(wide_row(out[i]));
+        say_number(rt, wide_row(out[i]));
     }
-    end_line();
+    end_line(rt);
 }
 
-fn say_bar() {
-    io::write_all(STDOUT_FILENO, b" |");
+fn say_bar<R: Print>(rt: &R) {
+    say(rt, b" |");
 }
 
-fn end_line() {
-    io::write_all(STDOUT_FILENO, b"\n");
+fn end_line<R: Print>(rt: &R) {
+    say(rt, b"\n");
 }
 
 fn wide_row(row: u32) -> u64

@@ -2,9 +2,15 @@
 // name, a space, the case's name, a colon, and the numbers that the call takes, with any words between them: a slice is its
 // length and its elements, an output how many elements it has and how many of them are lent. The answer is the line up to
 // the colon, the numbers of the reply, and every element of the output. What must be printed is made by tests/calls.
+#![tactic(auto)]
+
 mod calls;
 
-use libc::{STDIN_FILENO, STDOUT_FILENO};
+ghost use Rattle.std.specs.Prelude.{◌+◌, ◌≤◌, length};
+ghost use Rattle.io.specs.Counts.{IsPrefixLen};
+
+use calls::say;
+use std::io::Read;
 use try_reading::{behind, numbers_of};
 
 // The requests that are taken in one run, in bytes. One more is lent, so that more show.
@@ -13,72 +19,98 @@ const MOST_REQUESTS: usize = 1048576;
 // The numbers of a request: the bits of the most rows, and some more.
 const MOST_NUMBERS: usize = 131200;
 
-fn main() {
+fn main(rt: HostRuntime) {
     let mut requests = [0u8; MOST_REQUESTS + 1];
     let mut numbers = [0u64; MOST_NUMBERS];
-    take_requests(&mut requests, &mut numbers);
+    take_requests(&rt, &mut rt.stdin(), &mut requests, &mut numbers);
 }
 
 // Reads the requests and answers them, by way of what is lent for them and for the numbers of each.
-fn take_requests(requests: &mut [u8], numbers: &mut [u64]) {
-    let n = io::read_full(STDIN_FILENO, requests);
+fn take_requests<R: Print, I: Read>(
+    rt: &R,
+    input: &mut I,
+    requests: &mut [u8],
+    numbers: &mut [u64],
+) {
+    let n = read_full(input, requests);
     if MOST_REQUESTS < n {
-        io::write_all(STDOUT_FILENO, b"more than 1048576 bytes of requests\n");
+        say(rt, b"more than 1048576 bytes of requests\n");
         return;
     }
-    answer_all(&requests[..n], numbers);
+    answer_all(rt, &requests[..n], numbers);
+}
+
+// Reads until the buffer is full, the input ends or a read fails, and answers how many bytes it put at the start.
+fn read_full<I: Read>(input: &mut I, buffer: &mut [u8]) -> usize
+    ensures { IsPrefixLen result buffer.new }
+{
+    let mut done: usize = 0;
+    while done < buffer.len() {
+        let more = read_more(input, buffer, done);
+        if more == 0 {
+            return done;
+        }
+        done = done + more;
+    }
+    done
+}
+
+// One read into the buffer from a place on: no bytes where the input has ended or the read failed.
+fn read_more<I: Read>(input: &mut I, buffer: &mut [u8], done: usize) -> usize
+    requires { done ≤ length buffer.old }
+    ensures { done + result ≤ length buffer.old }
+{
+    input.read(&mut buffer[done..]).unwrap_or(0)
 }
 
 // Answers line after line, and says at the end how many there were. It ends since each line has a byte at least.
-fn answer_all(requests: &[u8], numbers: &mut [u64]) {
+fn answer_all<R: Print>(rt: &R, requests: &[u8], numbers: &mut [u64]) {
     let mut at: usize = 0;
     let mut lines: usize = 0;
     while at < requests.len() {
         let next = at + behind(&requests[at..], b'\n');
-        answer(&requests[at..next], numbers);
+        answer(rt, &requests[at..next], numbers);
         at = next;
         lines = lines + 1;
     }
-    say_total(lines);
+    say_total(rt, lines);
 }
 
-fn say_total(lines: usize) {
-    io::write_all(STDOUT_FILENO, b"requests ");
-    io::print_decimal(STDOUT_FILENO, lines as u64);
-    io::write_all(STDOUT_FILENO, b"\n");
+fn say_total<R: Print>(rt: &R, lines: usize) {
+    let _ = println!(rt; "requests {lines}");
 }
 
 // Prints a line up to its colon, and then the answer.
-fn answer(line: &[u8], numbers: &mut [u64]) {
+fn answer<R: Print>(rt: &R, line: &[u8], numbers: &mut [u64]) {
     let named = behind(line, b':');
-    io::write_all(STDOUT_FILENO, &line[..named]);
+    say(rt, &line[..named]);
     let read = numbers_of(&line[named..], numbers);
     let count = read.count;
     if read.all {
-        make_call(line, &numbers[..count]);
+        make_call(rt, line, &numbers[..count]);
     } else {
-        calls::say_no_request();
+        calls::say_no_request(rt);
     }
 }
 
-fn make_call(line: &[u8], numbers: &[u64]) {
+fn make_call<R: Print>(rt: &R, line: &[u8], numbers: &[u64]) {
     let word = behind(line, b' ');
     let name = &line[..word];
     if check::same(name, b"open ") {
-        calls::open(numbers);
+        calls::open(rt, numbers);
     } else if check::same(name, b"widths ") {
-        calls::widths(numbers);
+        calls::widths(rt, numbers);
     } else if check::same(name, b"write ") {
-        calls::write(numbers);
+        calls::write(rt, numbers);
     } else if check::same(name, b"read ") {
-        calls::read(numbers);
+        calls::read(rt, numbers);
     } else if check::same(name, b"scan ") {
-        calls::scan(numbers);
+        calls::scan(rt, numbers);
     } else if check::same(name, b"list ") {
-        calls::list(numbers);
+        calls::list(rt, numbers);
     } else if check::same(name, b"lookup ") {
-        calls::lookup(numbers);
+        calls::lookup(rt, numbers);
     } else {
-        calls::say_no_request();
+        calls::say_no_request(rt);
     }
 }

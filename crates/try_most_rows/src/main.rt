@@ -1,12 +1,13 @@
 // Scans a register of as many rows as a register may have and prints each reply: number, place and need
 // of a refusal, or matches, total and counts; then a digest of the result and the byte after it. What it
 // must print is made by tests/expect_most_rows.py, which goes row by row through the codes.
+#![tactic(auto)]
+
 ghost use Rattle.std.specs.Prelude.{◌≡◌, [], ◌∷◌, ◌+◌, ◌<◌, ◌≤◌, length, get_or, set, replicate};
 ghost use Rattle.basis.specs.Buffers.{laid};
 ghost use Rattle.query.specs.Tests.{tests_of};
 ghost use Rattle.try_most_rows.specs.Made.{body_bytes, file_bytes, if_long, HasCodes, ending, test_of};
 
-use libc::STDOUT_FILENO;
 use limits::MOST_ROWS;
 use query::{Comparison, Query, Test};
 use scan::Scanned;
@@ -24,20 +25,20 @@ const WITH_ONE_MORE: usize = NEED + 1;
 // What each byte of the result holds before a scan.
 const UNTOUCHED: u8 = 77;
 
-fn main() {
+fn main(rt: HostRuntime) {
     let mut file = [0u8; FILE];
     let mut result = [UNTOUCHED; WITH_ONE_MORE];
-    show_all(&mut file, &mut result);
+    show_all(&rt, &mut file, &mut result);
 }
 
 // The register at the limit, and the same file with a row more in its trailer.
-fn show_all(file: &mut [u8], res: &mut [u8]) {
+fn show_all<R: Print>(rt: &R, file: &mut [u8], res: &mut [u8]) {
     put_codes(file);
     put_ending(file);
-    show_limit(file, res);
-    show_counts(file, res);
+    show_limit(rt, file, res);
+    show_counts(rt, file, res);
     put_one_row_more(file);
-    show(b"1048577 rows, 8", file, 8, four(), res, NEED);
+    show(rt, b"1048577 rows, 8", file, 8, four(), res, NEED);
 }
 
 // Row r has the code (r x 1103 + r / 7 x 331) mod 5000 mod 4096, of 12 bits: 8 in the first slice, and 4
@@ -81,34 +82,34 @@ fn put_one_row_more(file: &mut [u8])
     file[BODY + 8] = 1;
 }
 
-fn show_limit(file: &[u8], res: &mut [u8]) {
-    show_sizes(file, res);
-    show_rooms(file, res);
-    show(b"no tests, 8", file, 8, none(), res, NEED);
+fn show_limit<R: Print>(rt: &R, file: &[u8], res: &mut [u8]) {
+    show_sizes(rt, file, res);
+    show_rooms(rt, file, res);
+    show(rt, b"no tests, 8", file, 8, none(), res, NEED);
 }
 
-fn show_sizes(file: &[u8], res: &mut [u8]) {
-    show(b"four tests, 8", file, 8, four(), res, NEED);
-    show(b"four tests, 16", file, 16, four(), res, NEED);
-    show(b"four tests, 32", file, 32, four(), res, NEED);
-    show(b"four tests, 64", file, 64, four(), res, NEED);
+fn show_sizes<R: Print>(rt: &R, file: &[u8], res: &mut [u8]) {
+    show(rt, b"four tests, 8", file, 8, four(), res, NEED);
+    show(rt, b"four tests, 16", file, 16, four(), res, NEED);
+    show(rt, b"four tests, 32", file, 32, four(), res, NEED);
+    show(rt, b"four tests, 64", file, 64, four(), res, NEED);
 }
 
-fn show_rooms(file: &[u8], res: &mut [u8]) {
-    show(b"a byte more, 64", file, 64, four(), res, WITH_ONE_MORE);
-    show(b"a byte short, 64", file, 64, four(), res, NEED - 1);
+fn show_rooms<R: Print>(rt: &R, file: &[u8], res: &mut [u8]) {
+    show(rt, b"a byte more, 64", file, 64, four(), res, WITH_ONE_MORE);
+    show(rt, b"a byte short, 64", file, 64, four(), res, NEED - 1);
 }
 
 // Queries that no text can ask, as they count more tests than there are slots. A file comes first, then the segment size.
-fn show_counts(file: &[u8], res: &mut [u8]) {
+fn show_counts<R: Print>(rt: &R, file: &[u8], res: &mut [u8]) {
     let below = test(Comparison::Less(512));
     let many = counted(below, 17);
     let most = counted(below, 18446744073709551615);
-    show(b"17 tests, 8", file, 8, many, res, NEED);
-    show(b"a great count, 8", file, 8, most, res, NEED);
-    show(b"17 tests, 24", file, 24, many, res, NEED);
+    show(rt, b"17 tests, 8", file, 8, many, res, NEED);
+    show(rt, b"a great count, 8", file, 8, most, res, NEED);
+    show(rt, b"17 tests, 24", file, 24, many, res, NEED);
     let no_file = [1u8, 2, 3];
-    show(b"no file, 17 tests, 7", &no_file, 7, many, res, NEED);
+    show(rt, b"no file, 17 tests, 7", &no_file, 7, many, res, NEED);
 }
 
 // The same test in every slot, and a count of so many.
@@ -154,21 +155,29 @@ fn test(comparison: Comparison) -> Test
 
 // Scans into so many bytes of a result that was filled anew, and prints the reply and what the result
 // holds then.
-fn show(name: &[u8], file: &[u8], size: usize, query: Query, res: &mut [u8], room: usize) {
+fn show<R: Print>(
+    rt: &R,
+    name: &[u8],
+    file: &[u8],
+    size: usize,
+    query: Query,
+    res: &mut [u8],
+    room: usize,
+) {
     fill(res);
     let kept = numbers::least(room, res.len());
     let scanned = scan::scan(file, size, query, &mut res[..kept]);
-    io::write_all(STDOUT_FILENO, name);
-    say_reply(scanned);
-    say(b", digest ", digest_of(res));
-    say(b", after it ", byte_after(res));
-    end_line();
+    let _ = rt.write_all(name);
+    say_reply(rt, scanned);
+    say(rt, b", digest ", digest_of(res));
+    say(rt, b", after it ", byte_after(res));
+    end_line(rt);
 }
 
 fn fill(res: &mut [u8])
     ensures { res.new ≡ replicate (length res.old) 77 }
 {
-    for i in 0..result.len() {
+    for i in 0..res.len() {
         res[i] = UNTOUCHED;
     }
 }
@@ -198,27 +207,27 @@ fn byte_after(res: &[u8]) -> usize
     }
 }
 
-fn say_reply(scanned: Scanned) {
+fn say_reply<R: Print>(rt: &R, scanned: Scanned) {
     let refusal = scanned.refusal;
     let counts = scanned.counts;
-    say(b": number ", refusal.number);
-    say(b" place ", refusal.place);
-    say(b" need ", refusal.need);
-    say(b" matches ", scanned.matches);
-    say(b" total ", scanned.total);
-    say(b" counts ", counts[0]);
-    say(b" ", counts[1]);
-    say(b" ", counts[2]);
-    say(b" ", counts[3]);
+    say(rt, b": number ", refusal.number);
+    say(rt, b" place ", refusal.place);
+    say(rt, b" need ", refusal.need);
+    say(rt, b" matches ", scanned.matches);
+    say(rt, b" total ", scanned.total);
+    say(rt, b" counts ", counts[0]);
+    say(rt, b" ", counts[1]);
+    say(rt, b" ", counts[2]);
+    say(rt, b" ", counts[3]);
 }
 
 // Prints words and then a number.
-fn say(words: &[u8], number: usize) {
-    io::write_all(STDOUT_FILENO, words);
-    io::print_decimal(STDOUT_FILENO, number as u64);
+fn say<R: Print>(rt: &R, words: &[u8], number: usize) {
+    let _ = rt.write_all(words);
+    let _ = print!(rt; "{number}");
 }
 
 // Ends the line that is being printed.
-fn end_line() {
-    io::write_all(STDOUT_FILENO, b"\n");
+fn end_line<R: Print>(rt: &R) {
+    let _ = rt.write_all(b"\n");
 }

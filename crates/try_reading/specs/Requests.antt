@@ -1,5 +1,6 @@
 -- How a request is read: the numbers of a line, and of these the slices and outputs of a call. Assumes nothing.
-use Rattle.std.specs.Prelude.{ℕ, suc, ◌+◌, ◌-◌, ◌*◌, ◌<◌, ◌≤◌, ◌^◌, min, ◌≡◌, Bool, true, false, cond, eqb, ltb, leb, length, take, drop, get_or}
+use Rattle.std.specs.Prelude.{ℕ, suc, ◌+◌, ◌-◌, ◌*◌, ◌<◌, ◌≤◌, ◌^◌, min, ◌≡◌, Bool, true, false, cond, eqb, ltb, leb}
+use Rattle.std.specs.Prelude.{length, take, drop, get_or}
 use mathlib.Core.List.{List, [], ◌∷◌, Memᴰ}
 use Rattle.io.specs.Counts.{IsPrefixLen}
 use Rattle.try_reading.specs.declared.Part.{Part}
