@@ -176,27 +176,21 @@ def take_and_leave(reader, size):
     return taken, written
 
 
-def leaving_said(waits, size, program):
-    with piped(program, waits, partial(ignoring, signal.SIGPIPE)) as (process, reader):
+def leaving_said(waits, size, before, program):
+    with piped(program, waits, before) as (process, reader):
         taken, written = take_and_leave(reader, size)
         end = end_of(process)
     whole = whole_of(LARGEST)
     return status_fault(end) or front_fault(taken, whole, size) or said_fault(end.said, errno.EPIPE, written, whole)
 
 
-def leaving_ends(waits, size, program):
-    with piped(program, waits) as (process, reader):
-        taken, _ = take_and_leave(reader, size)
-        end = end_of(process)
-    return status_fault(end, -signal.SIGPIPE) or front_fault(taken, whole_of(LARGEST), size)
-
-
 def pipes():
     for waits, name in ((True, 'a pipe'), (False, 'a pipe that does not wait')):
         yield Check(f'{name}, read slowly', partial(slow, waits))
         for size in (0, 1, 10000, 100000):
-            yield Check(f'{name}, closed after {size} bytes, the signal ignored', partial(leaving_said, waits, size))
-        yield Check(f'{name}, closed after 10000 bytes, ended by the signal', partial(leaving_ends, waits, 10000))
+            yield Check(f'{name}, closed after {size} bytes, the signal ignored', partial(leaving_said, waits, size, partial(ignoring, signal.SIGPIPE)))
+        # a program of the kit ignores that signal by itself
+        yield Check(f'{name}, closed after 10000 bytes, the signal at its default', partial(leaving_said, waits, 10000, None))
 
 
 def checks():
