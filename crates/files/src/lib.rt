@@ -5,9 +5,9 @@
 ghost use Rattle.std.specs.Prelude.{◌≡◌, ◌+◌, ◌≤◌, eqb, length};
 ghost use Rattle.files.specs.Taking.{number_of, count_of, taken_by, TakenInto, NotOpened};
 
-use std::io::Read;
+use std::io::{ErrorKind, Read};
 use std::rt::Files;
-use std::{fs, io};
+use std::{fs, io, str};
 
 // How many bytes were put at the start of the buffer, or that a read failed.
 #[derive(Clone, Copy)]
@@ -57,11 +57,19 @@ pub fn take_all<R: Read>(reader: &mut R, buffer: &mut [u8]) -> Taken
 
 // Reads the file of this name as take_all does. One that cannot be opened is unreadable, and so is
 // a folder, which opens and whose first read fails.
-pub fn read_file<R: Files>(files: &R, path: &str, buffer: &mut [u8]) -> Taken
+pub fn read_file<R: Files>(files: &R, path: &[u8], buffer: &mut [u8]) -> Taken
     ensures { TakenInto buffer.old buffer.new result }
 {
-    let opened = fs::open(files, path);
+    let opened = open_named(files, path);
     take_opened(opened, buffer)
+}
+
+// Opens a file for reading. The system's files are named by text here, so none has a name that is no text.
+fn open_named<R: Files>(files: &R, path: &[u8]) -> io::Result<R::File> {
+    match str::from_utf8(path) {
+        Ok(name) => fs::open(files, name),
+        Err(_) => Err(io::Error::from(ErrorKind::NotFound)),
+    }
 }
 
 // Reads what opening answered, a file or an error, and closes it. That closing what was only read failed says

@@ -45,7 +45,7 @@ pub fn list_parts<R: Files + Clock, I: Read, W: Write>(
     requires { 0 < length out.old }
     ensures { PartsListed file.old file.new text.old text.new result }
 {
-    let taken = files::read_file(rt, "parts.bsl", file);
+    let taken = files::read_file(rt, b"parts.bsl", file);
     let given = take_text(input, taken, text);
     print_taken(rt, output, taken, file, given, text, out)
 }
