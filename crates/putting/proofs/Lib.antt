@@ -1,0 +1,2 @@
+-- What the error of a write says.
+pub mod Errors
