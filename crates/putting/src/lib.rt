@@ -135,7 +135,7 @@ fn words_of<'a>(error: &io::Error, text: &'a mut [u8; MOST_WORDS]) -> &'a str {
 
 // What a disk elsewhere could not take may show only once all is written. Nothing in std closes standard output and says how that
 // went. So where it is a file of a disk, what was written is sent to that disk now, by the file's own name, which answers the same.
-// Where it is none, or cannot be opened by that name, there is nothing to ask.
+// Where it is none, or cannot be opened by that name or sent to a disk, there is nothing to ask.
 pub fn saved<R: Files>(files: &R) -> io::Result<()> {
     let Ok(about) = fs::metadata(files, OUTPUT) else {
         return Ok(());
@@ -148,5 +148,16 @@ pub fn saved<R: Files>(files: &R) -> io::Result<()> {
     let Ok(file) = how.open(files, OUTPUT) else {
         return Ok(());
     };
-    file.sync_data()
+    match file.sync_data() {
+        Err(error) if is_unasked(error.kind()) => Ok(()),
+        done => done,
+    }
+}
+
+// Whether a file cannot be sent to its disk at all, so that the error says nothing of what was written.
+fn is_unasked(kind: ErrorKind) -> bool {
+    matches!(
+        kind,
+        ErrorKind::InvalidInput | ErrorKind::Unsupported | ErrorKind::ReadOnlyFilesystem
+    )
 }
