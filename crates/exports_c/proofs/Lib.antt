@@ -1,0 +1,2 @@
+-- The law of the calls by their C names.
+pub mod SingleReply
