@@ -2,41 +2,56 @@
 --   Replied        an answer and a buffer that are the table's
 --   refused_by     a line answers: its refusal, and the buffer as it was
 --   accepted_by    none does: the elements, and the list at the front of the buffer
---   told_is_accepted    where elements are told, no line answers, and they are the call's
+--   told_is_accepted    where a value is told, no line answers, and it is the call's
+--   refusal_told        where a refusal is told, it is that of the line that answers
 use Prim.Native.Nat.{ℕ}
 use native.Mathlib.Omega.{arith}
 use mathlib.Core.Path.{◌≡◌, refl}
 use mathlib.Core.List.{List}
 use mathlib.Core.Option.{Option, none, some}
-use Rattle.basis.specs.Refusals.{Line, first_line, answer_by}
+use Rattle.std.specs.Prelude.{Result, Ok, Err}
+use Rattle.refusals.specs.declared.Refusal.{Refusal}
+use Rattle.basis.specs.Refusals.{Line, first_line, answer_by, answer_of}
 use Rattle.basis.specs.Buffers.{laid}
-use Rattle.answers.specs.declared.Answer.{Answer}
-use Rattle.answers.specs.declared.Answer.TheVariants.{Elements, Refused}
-use Rattle.answers.specs.Answers.{refusal, shown_of, answer_of, shown_for, left_by}
+use Rattle.answers.specs.Answers.{shown_of, shown_for, left_by}
 
 module _ {A : Type 0} (lines : List Line) (elements : ℕ) (list out : List A) where
   -- what a call promises of its answer and of the buffer
-  abbrev pub Replied : Answer → List A → Type 0
-  Replied answer left =
-      (answer ≡ answer_of lines elements) × ((shown_of answer ≡ shown_for lines elements) × (left ≡ left_by lines out list))
+  abbrev pub Replied : Result ℕ Refusal → List A → Type 0
+  Replied reply after = record {
+    answer : reply ≡ answer_of lines elements;
+    shown : shown_of reply ≡ shown_for lines elements;
+    left : after ≡ left_by lines out list
+  }
 
-  pub refused_by : {line : Line} → first_line lines ≡ some line → {answer : Answer} → answer ≡ Refused (refusal line) →
-      Replied answer out
+  pub refused_by : {line : Line} → first_line lines ≡ some line → Replied (Err line.refusal) out
   unfolding answer_of shown_for left_by
-  refused_by first said = rw (said, first) (refl, (refl, refl))
+  refused_by first = rw first (record { answer = refl; shown = refl; left = refl })
 
-  pub accepted_by : first_line lines ≡ none → {answer : Answer} {left : List A} → answer ≡ Elements elements →
-      left ≡ laid out 0 list → Replied answer left
+  pub accepted_by : first_line lines ≡ none → {told : ℕ} {after : List A} → told ≡ elements → after ≡ laid out 0 list →
+      Replied (Ok told) after
   unfolding answer_of shown_for left_by
-  accepted_by first said written = rw (said, written, first) (refl, (refl, refl))
+  accepted_by first same written = rw (same, written, first) (record { answer = refl; shown = refl; left = refl })
 
--- a refusal is no number of elements
-no_line : (first : Option Line) (elements told : ℕ) →
-    answer_by (λ line. Refused (refusal line)) (Elements elements) first ≡ Elements told → (first ≡ none) × (told ≡ elements)
-no_line none elements told e = (refl, cc)
-no_line (some line) elements told e = let z : ◌≡◌ {A = ℕ} 0 1 = cc in absurd (omega arith)
+-- a refusal is no value
+no_line : {A : Type 0} (first : Option Line) (value told : A) →
+    answer_by (λ line. Err line.refusal) (Ok value) first ≡ Ok told → (first ≡ none) × (told ≡ value)
+no_line none value told e = (refl, cc)
+no_line (some line) value told e = let z : ◌≡◌ {A = ℕ} 0 1 = cc in absurd (omega arith)
 
-pub told_is_accepted : (lines : List Line) (elements told : ℕ) → answer_of lines elements ≡ Elements told →
-    (first_line lines ≡ none) × (told ≡ elements)
+pub told_is_accepted : {A : Type 0} (lines : List Line) (value told : A) → answer_of lines value ≡ Ok told →
+    (first_line lines ≡ none) × (told ≡ value)
 unfolding answer_of
-told_is_accepted lines elements told e = no_line (first_line lines) elements told e
+told_is_accepted lines value told e = no_line (first_line lines) value told e
+
+-- and a value is no refusal
+some_line : {A : Type 0} (first : Option Line) (value : A) (refusal : Refusal) →
+    answer_by (λ line. Err line.refusal) (Ok value) first ≡ Err refusal →
+    (line : Line) × (first ≡ some line) × (line.refusal ≡ refusal)
+some_line none value refusal e = let z : ◌≡◌ {A = ℕ} 0 1 = cc in absurd (omega arith)
+some_line (some line) value refusal e = (line, refl, cc)
+
+pub refusal_told : {A : Type 0} (lines : List Line) (value : A) (refusal : Refusal) → answer_of lines value ≡ Err refusal →
+    (line : Line) × (first_line lines ≡ some line) × (line.refusal ≡ refusal)
+unfolding answer_of
+refusal_told lines value refusal e = some_line (first_line lines) value refusal e

@@ -1,2 +1,2 @@
--- The answer of a call that writes so many elements, what is shown of it, and what the buffer then holds.
+-- What is shown of the answer of a call that writes so many elements, and what the buffer then holds.
 pub mod Answers

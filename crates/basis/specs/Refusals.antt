@@ -1,38 +1,34 @@
 -- A call's refusals as a table in the order in which they are tried: the first line whose condition holds answers.
 -- Assumes nothing.
-use Rattle.std.specs.Prelude.{ℕ, List, [], ◌∷◌, map, Bool, cond}
+use Rattle.std.specs.Prelude.{ℕ, List, [], ◌∷◌, ◌++◌, map, Bool, cond, Result, Ok, Err}
 use Rattle.std.proofs.Math.Option.{Option, none, some}
+use Rattle.refusals.specs.declared.Refusal.{Refusal}
+use Rattle.refusals.specs.Numbers.{numbers_of}
 
--- a line of the table: whether its condition holds, and the number, place and need that are then shown
+-- a line of the table: whether its condition holds, and the refusal then
 pub record Line : Type 0 where
   pub holds : Bool
-  pub number : ℕ
-  pub place : ℕ
-  pub need : ℕ
+  pub refusal : Refusal
 
--- a refusal without place and need, which are then 0
-abbrev pub refuse : ℕ → Bool → Line
-refuse number holds = record { holds = holds; number = number; place = 0; need = 0 }
-
--- a refusal with its place
-abbrev pub refuse_at : ℕ → Bool → ℕ → Line
-refuse_at number holds place = record { holds = holds; number = number; place = place; need = 0 }
-
--- a refusal with its need
-abbrev pub refuse_for : ℕ → Bool → ℕ → Line
-refuse_for number holds need = record { holds = holds; number = number; place = 0; need = need }
+-- a line, its refusal first
+abbrev pub refuse : Refusal → Bool → Line
+refuse refusal holds = record { holds = holds; refusal = refusal }
 
 -- the first line whose condition holds
 abbrev pub first_line : List Line → Option Line
 first_line [] = none
 first_line (line ∷ lines) = cond line.holds (some line) (first_line lines)
 
--- the answer to a call: what the first line says, or what the call was asked for
+-- what follows from the first line, or from there being none
 abbrev pub answer_by : {A : Type 0} → (Line → A) → A → Option Line → A
 answer_by refused accepted none = accepted
 answer_by refused accepted (some line) = refused line
 
--- what is shown of it, in numbers: 0 thrice and the values, or the line's number, place and need, and 0 for each value
+-- the answer to a call: what it was asked for, or the refusal of the first line
+unfoldable pub answer_of : {A : Type 0} → List Line → A → Result A Refusal
+answer_of lines value = answer_by (λ line. Err line.refusal) (Ok value) (first_line lines)
+
+-- what is shown of it, in numbers: 0 thrice and the values, or the refusal's number, place and need, and 0 for each value
 abbrev pub shown_by : List ℕ → Option Line → List ℕ
 shown_by values none = 0 ∷ 0 ∷ 0 ∷ values
-shown_by values (some line) = line.number ∷ line.place ∷ line.need ∷ map (λ value. 0) values
+shown_by values (some line) = numbers_of line.refusal ++ map (λ value. 0) values

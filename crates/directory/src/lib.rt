@@ -8,8 +8,10 @@ ghost use Rattle.limits.specs.Limits.{entry_bytes, trailer_bytes};
 ghost use Rattle.directory.specs.File.{unfit_entry};
 ghost use Rattle.directory.specs.Trailer.{TrailerRead};
 ghost use Rattle.directory.specs.Fitting.{DirectoryThere, FitUpTo};
+ghost use Rattle.refusals.specs.declared.Refusal.TheVariants.{UnfitColumn};
 
 use limits::ENTRY_BYTES;
+use refusals::Refusal;
 
 // The numbers of a file's last 16 bytes.
 #[derive(Clone, Copy)]
@@ -21,12 +23,19 @@ pub struct Trailer {
     pub mark: usize,
 }
 
-// How far the directory is fit: the first unfit column, or the number of columns where there is
-// none, and how many slices the columns before it have.
-#[derive(Clone, Copy)]
-pub struct FitSoFar {
-    pub place: usize,
+// The first column that is unfit, and how many slices the columns before it have.
+#[derive(Clone, Copy, Debug, PartialEq, Eq)]
+pub struct FirstUnfit {
+    pub column: usize,
     pub slices: usize,
+}
+
+impl From<FirstUnfit> for Refusal {
+    ghost from_gives = { λ unfit refusal. refusal ≡ UnfitColumn unfit.column };
+
+    fn from(unfit: FirstUnfit) -> Refusal {
+        Refusal::UnfitColumn(unfit.column)
+    }
 }
 
 // The numbers of a trailer.
@@ -57,28 +66,20 @@ fn unfit_entry(entry: &[u8], offset: usize) -> bool
     numbers::number_of(&entry[4..8]) != offset
 }
 
-// Goes through the directory column by column, and ends at the first that is unfit.
-pub fn fit_columns(file: &[u8], directory: usize, rows: usize, columns: usize) -> FitSoFar
+// Goes through the directory column by column: how many slices all columns have, or the first that is unfit.
+pub fn fit_columns(file: &[u8], directory: usize, rows: usize, columns: usize) -> Result<usize, FirstUnfit>
     requires { DirectoryThere file.now directory rows columns }
     ensures { FitUpTo file.now columns result }
 {
     let mut slices: usize = 0;
-    let mut column = 0;
-    while column < columns {
+    for column in 0..columns {
         let from = directory + ENTRY_BYTES * column;
         let to = from + ENTRY_BYTES;
         let entry = &file[from..to];
         if unfit_entry(entry, rows * slices) {
-            return FitSoFar {
-                place: column,
-                slices,
-            };
+            return Err(FirstUnfit { column, slices });
         }
-        slices = slices + codes::slices_of(entry[0]);
-        column = column + 1;
+        slices += codes::slices_of(entry[0]);
     }
-    FitSoFar {
-        place: column,
-        slices,
-    }
+    Ok(slices)
 }

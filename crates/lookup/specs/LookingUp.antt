@@ -1,8 +1,9 @@
 -- Looking up: the opening's refusal, then 12, 15, 10, or the code of each row that is listed. Assumes nothing.
-use Rattle.std.specs.Prelude.{ℕ, List, [], ◌∷◌, ◌++◌, map, leb, ltb, length, get_or}
+use Rattle.std.specs.Prelude.{ℕ, List, [], ◌∷◌, ◌++◌, map, leb, ltb, length, get_or, Result}
 use Rattle.basis.specs.Places.{first_place}
-use Rattle.basis.specs.Refusals.{Line, refuse, refuse_at, refuse_for}
-use Rattle.answers.specs.declared.Answer.{Answer}
+use Rattle.basis.specs.Refusals.{Line, refuse, answer_of}
+use Rattle.refusals.specs.declared.Refusal.{Refusal}
+use Rattle.refusals.specs.declared.Refusal.TheVariants.{NoSuchColumn, NoSuchRow, OutputTooShort}
 use Rattle.answers.specs.Answers as answers
 use Rattle.directory.specs.File.{rows_in, columns_in}
 use Rattle.register.specs.Cells.{code_at}
@@ -22,9 +23,9 @@ module _ (file : List ℕ) (column : ℕ) (list : List ℕ) (room : ℕ) where
   -- 10: the output is too short; need: the length of the list
   unfoldable pub own_lines : List Line
   own_lines =
-      refuse 12 (leb (columns_in file) column)
-      ∷ refuse_at 15 (ltb (first_missing (rows_in file) list) (length list)) (first_missing (rows_in file) list)
-      ∷ refuse_for 10 (ltb room (length list)) (length list)
+      refuse (NoSuchColumn 0) (leb (columns_in file) column)
+      ∷ refuse (NoSuchRow (first_missing (rows_in file) list)) (ltb (first_missing (rows_in file) list) (length list))
+      ∷ refuse (OutputTooShort (length list)) (ltb room (length list))
       ∷ []
 
   -- the file is opened first
@@ -32,8 +33,8 @@ module _ (file : List ℕ) (column : ℕ) (list : List ℕ) (room : ℕ) where
   look_up_lines = open_lines file ++ own_lines
 
   -- the answer
-  abbrev pub looked_up_of : Answer
-  looked_up_of = answers.answer_of look_up_lines (length list)
+  abbrev pub looked_up_of : Result ℕ Refusal
+  looked_up_of = answer_of look_up_lines (length list)
 
   -- what is shown, from the same table
   abbrev pub shown_for : List ℕ

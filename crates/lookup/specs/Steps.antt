@@ -1,7 +1,6 @@
 -- What the steps of the lookup know and say of the numbers of a list. Assumes nothing.
-use Rattle.std.specs.Prelude.{ℕ, ◌<◌, ◌≤◌, ◌≡◌, List, length, get_or}
+use Rattle.std.specs.Prelude.{ℕ, ◌<◌, ◌≤◌, ◌≡◌, List, length, get_or, Ok}
 use Rattle.register.specs.declared.Shape.{Shape}
-use Rattle.register.specs.declared.Opened.TheVariants.{Register}
 use Rattle.register.specs.Opening.{opened_of}
 
 -- every listed number is below a bound
@@ -19,7 +18,7 @@ pub record NeitherAbove (bound a b : ℕ) : Type 0 where
 
 -- the file opened as the shape, has the column and every listed row, and the output has room for their codes
 pub record ToLookUp (file : List ℕ) (shape : Shape) (column : ℕ) (list out : List ℕ) : Type 0 where
-  pub opened : opened_of file ≡ Register shape
+  pub opened : opened_of file ≡ Ok shape
   pub column_there : column < shape.columns
   pub rows_there : AllBelow shape.rows list
   pub room : length list ≤ length out

@@ -8,32 +8,29 @@ ghost use Rattle.answers.specs.Answers.{shown_of};
 ghost use Rattle.lookup.specs.Steps.{NoneAbove, NeitherAbove, ToLookUp};
 ghost use Rattle.lookup.specs.LookingUp.{first_missing, codes_of, looked_up_of, shown_for, left_in};
 
-use answers::{Answer, refused};
-use register::{Opened, Shape};
+use refusals::Refusal;
+use register::Shape;
 
 // Writes the code that each listed row has in a column to the front of `out`. Refused, it changes
 // nothing.
-pub fn look_up(file: &[u8], column: usize, rows: &[u32], out: &mut [u64]) -> Answer
+pub fn look_up(file: &[u8], column: usize, rows: &[u32], out: &mut [u64]) -> Result<usize, Refusal>
     ensures answer { result ≡ looked_up_of file.now column rows.now (length out.old) }
     ensures shown { shown_of result ≡ shown_for file.now column rows.now (length out.old) }
     ensures left { out.new ≡ left_in file.now column rows.now out.old }
 {
-    let opened = register::open(file);
-    let Opened::Register(shape) = opened else {
-        return Answer::Refused(register::refusal_of(opened));
-    };
+    let shape = register::open(file)?;
     if shape.columns <= column {
-        return refused(12, 0, 0);
+        return Err(Refusal::NoSuchColumn(0));
     }
     let missing = first_missing(shape.rows, rows);
     if missing < rows.len() {
-        return refused(15, missing, 0);
+        return Err(Refusal::NoSuchRow(missing));
     }
     if out.len() < rows.len() {
-        return refused(10, 0, rows.len());
+        return Err(Refusal::OutputTooShort(rows.len()));
     }
     write_codes(file, shape, column, rows, out);
-    Answer::Elements(rows.len())
+    Ok(rows.len())
 }
 
 fn wide(row: u32) -> usize

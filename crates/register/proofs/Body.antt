@@ -12,7 +12,7 @@ use Rattle.codes.specs.Width.{slices_of}
 use Rattle.directory.specs.Layout.{slices_before}
 use Rattle.directory.specs.File.{rows_in, columns_in, directory_in, width_in, offset_in}
 use Rattle.register.specs.declared.Shape.{Shape}
-use Rattle.register.specs.declared.Opened.TheVariants.{Register}
+use Rattle.std.specs.Prelude.{Ok}
 use Rattle.register.specs.Opening.{opened_of}
 use Rattle.register.proofs.Fit.{Fit, opened_is_fit, rows_as_opened, columns_as_opened}
 use Rattle.directory.proofs.Entries.{fit_column, one_more_column}
@@ -43,7 +43,7 @@ module _ (file : List ℕ) (fit : Fit file) (column slice row : ℕ) (column_the
   in_the_file : offset_in file column + slice * rows_in file + row < length file
   in_the_file = omega (arith, in_the_body, fit.placed)
 
-pub byte_as_opened : (file : List ℕ) (shape : Shape) → opened_of file ≡ Register shape → (column slice row : ℕ) →
+pub byte_as_opened : (file : List ℕ) (shape : Shape) → opened_of file ≡ Ok shape → (column slice row : ℕ) →
     column < shape.columns → slice < slices_of (width_in file column) → row < shape.rows →
     offset_in file column + slice * shape.rows + row < length file
 byte_as_opened file shape opened column slice row column_there slice-there row_there =

@@ -1,6 +1,5 @@
 -- What is known of a file that opened: every condition of the table has been tried and does not hold. Assumes nothing.
 --   Fit                 the facts, in plain numbers
---   register_told       an answer by a table that tells of a register comes where no line answers, and tells the shape
 --   opened_passes       where a file opens, no line of the table answers
 --   opened_is_fit       a file that opens has them
 --   rows_as_opened, columns_as_opened    the shape that opening tells is the file's
@@ -25,12 +24,12 @@ use Rattle.basis.proofs.Places.{none_before_first, first_is_none}
 use Rattle.codes.specs.Width.{slices_of}
 use Rattle.codes.proofs.Width.{few_slices_of}
 use Rattle.register.specs.declared.Shape.{Shape}
-use Rattle.register.specs.declared.Opened.TheVariants.{Register, Refused}
+use Rattle.std.specs.Prelude.{Ok}
 use Rattle.limits.specs.Limits.{most_rows, most_columns, widest, most_slices, entry_bytes, trailer_bytes}
 use Rattle.directory.specs.Layout.{bytes_before}
 use Rattle.directory.specs.File.{rows_in, columns_in, version_in, directory_in, mark_in, mark, width_in, unfit_column}
-use Rattle.answers.specs.Answers.{refusal}
-use Rattle.register.specs.Opening.{first_unfit_column, open_lines, opened_of}
+use Rattle.answers.proofs.Replies.{told_is_accepted}
+use Rattle.register.specs.Opening.{first_unfit_column, open_lines, shape_in, opened_of}
 use Rattle.directory.proofs.Entries.{fit_column}
 use Rattle.register.proofs.Opening.{marked, right_version, few_rows, few_columns, directory_last, all_fit, body_last, opened_by}
 
@@ -45,23 +44,14 @@ pub record Fit (file : List ℕ) : Type 0 where
   pub each_fit : (column : ℕ) → column < columns_in file → unfit_column file column ≡ false
   pub whole : bytes_before (rows_in file) (width_in file) (columns_in file) ≡ directory_in file
 
-abbrev shape_in : List ℕ → Shape
-shape_in file = record { rows = rows_in file; columns = columns_in file }
-
--- a refusal is no register, so where one is told, no line answered
-pub register_told : (lines : Option Line) (shape shape' : Shape) →
-    answer_by (λ line. Refused (refusal line)) (Register shape) lines ≡ Register shape' → (lines ≡ none) × (shape ≡ shape')
-register_told none shape shape' e = (refl, cc)
-register_told (some line) shape shape' e = let z : ◌≡◌ {A = ℕ} 0 1 = cc in absurd (omega arith)
-
-pub opened_passes : (file : List ℕ) (shape : Shape) → opened_of file ≡ Register shape → first_line (open_lines file) ≡ none
+pub opened_passes : (file : List ℕ) (shape : Shape) → opened_of file ≡ Ok shape → first_line (open_lines file) ≡ none
 unfolding opened_of
-opened_passes file shape e = (register_told (first_line (open_lines file)) (shape_in file) shape e).0
+opened_passes file shape e = (told_is_accepted (open_lines file) (shape_in file) shape e).0
 
-pub opened_is_fit : (file : List ℕ) (shape : Shape) → opened_of file ≡ Register shape → Fit file × (shape ≡ shape_in file)
+pub opened_is_fit : (file : List ℕ) (shape : Shape) → opened_of file ≡ Ok shape → Fit file × (shape ≡ shape_in file)
 unfolding opened_of open_lines
 opened_is_fit file shape e =
-    let answered = register_told (first_line (open_lines file)) (shape_in file) shape e in
+    let answered = told_is_accepted (open_lines file) (shape_in file) shape e in
     let line = each_fails (open_lines file) (none_when_accepted (open_lines file) answered.0) in
     let one = neither (ltb (length file) trailer_bytes) (not (eqb (mark_in file) mark)) line.0 in
     let four = neither (eqb (columns_in file) 0) (ltb most_columns (columns_in file)) line.1.1.1.0 in
@@ -77,40 +67,40 @@ opened_is_fit file shape e =
         each_fit = λ column h. none_before_first (unfit_column file) (columns_in file) column (omega arith);
         whole = eqb-true _ _ (not-false _ line.1.1.1.1.1.1.0);
       },
-      sym answered.1,
+      answered.1,
     )
 
-pub rows_as_opened : (file : List ℕ) (shape : Shape) → opened_of file ≡ Register shape → shape.rows ≡ rows_in file
+pub rows_as_opened : (file : List ℕ) (shape : Shape) → opened_of file ≡ Ok shape → shape.rows ≡ rows_in file
 rows_as_opened file shape opened = ap (λ (s : Shape). s.rows) (opened_is_fit file shape opened).1
 
-pub columns_as_opened : (file : List ℕ) (shape : Shape) → opened_of file ≡ Register shape → shape.columns ≡ columns_in file
+pub columns_as_opened : (file : List ℕ) (shape : Shape) → opened_of file ≡ Ok shape → shape.columns ≡ columns_in file
 columns_as_opened file shape opened = ap (λ (s : Shape). s.columns) (opened_is_fit file shape opened).1
 
-pub few_rows_as_opened : (file : List ℕ) (shape : Shape) → opened_of file ≡ Register shape → shape.rows ≤ most_rows
+pub few_rows_as_opened : (file : List ℕ) (shape : Shape) → opened_of file ≡ Ok shape → shape.rows ≤ most_rows
 few_rows_as_opened file shape opened =
     omega (arith, rows_as_opened file shape opened, (opened_is_fit file shape opened).0.few_rows)
 
-pub few_columns_as_opened : (file : List ℕ) (shape : Shape) → opened_of file ≡ Register shape → shape.columns ≤ most_columns
+pub few_columns_as_opened : (file : List ℕ) (shape : Shape) → opened_of file ≡ Ok shape → shape.columns ≤ most_columns
 few_columns_as_opened file shape opened =
     omega (arith, columns_as_opened file shape opened, (opened_is_fit file shape opened).0.few_columns)
 
-pub width_as_opened : (file : List ℕ) (shape : Shape) → opened_of file ≡ Register shape → (column : ℕ) → column < shape.columns →
+pub width_as_opened : (file : List ℕ) (shape : Shape) → opened_of file ≡ Ok shape → (column : ℕ) → column < shape.columns →
     (0 < width_in file column) × (width_in file column ≤ widest)
 width_as_opened file shape opened column there =
     let inside : column < columns_in file = omega (arith, columns_as_opened file shape opened) in
     let known = fit_column file column ((opened_is_fit file shape opened).0.each_fit column inside) in
     (known.some, known.narrow)
 
-pub few_bytes_as_opened : (file : List ℕ) (shape : Shape) → opened_of file ≡ Register shape → (column : ℕ) → column < shape.columns →
+pub few_bytes_as_opened : (file : List ℕ) (shape : Shape) → opened_of file ≡ Ok shape → (column : ℕ) → column < shape.columns →
     shape.rows * slices_of (width_in file column) ≤ most_rows * most_slices
 few_bytes_as_opened file shape opened column there =
     let narrow = (width_as_opened file shape opened column there).1 in
     mul-le-mul (few_rows_as_opened file shape opened) (few_slices_of (width_in file column) narrow)
 
-pub fit_is_opened : (file : List ℕ) → Fit file → opened_of file ≡ Register (shape_in file)
+pub fit_is_opened : (file : List ℕ) → Fit file → opened_of file ≡ Ok (shape_in file)
 fit_is_opened file fit =
     let none_unfit = first_is_none (unfit_column file) (columns_in file) fit.each_fit in
     let one = marked file fit.long fit.marked in
     let three = few_rows file (right_version file one fit.version) fit.few_rows in
     let five = directory_last file (few_columns file three fit.some_columns fit.few_columns) fit.placed in
-    sym (opened_by file (body_last file (all_fit file five (omega arith)) fit.whole) refl).0
+    sym (opened_by file (body_last file (all_fit file five (omega arith)) fit.whole) refl refl).answer

@@ -14,17 +14,17 @@ use mathlib.Core.List.{List}
 use mathlib.Core.Option.{none, some}
 use lib.ListN.{length, drop}
 use borrow.Author.Tests.{le-ltb, ne_eqb}
-use Rattle.basis.specs.Refusals.{Line, first_line}
+use Rattle.basis.specs.Refusals.{Line, first_line, answer_of}
 use Rattle.basis.proofs.Truth.{nor, agrees}
 use Rattle.basis.proofs.Refusals.{Past, at_first, passes, ends}
 use Rattle.limits.specs.Limits.{most_rows, most_columns, entry_bytes, trailer_bytes}
-use Rattle.answers.specs.Answers.{refusal}
-use Rattle.register.specs.declared.Opened.{Opened}
-use Rattle.register.specs.declared.Opened.TheVariants.{Register, Refused}
+use Rattle.std.specs.Prelude.{Result, Ok, Err}
+use Rattle.refusals.specs.declared.Refusal.{Refusal}
+use Rattle.register.specs.declared.Shape.{Shape}
 use Rattle.directory.specs.Layout.{bytes_before}
 use Rattle.directory.specs.File.{rows_in, columns_in, version_in, directory_in, mark_in, mark, width_in}
 use Rattle.register.specs.Answers.{shown_of}
-use Rattle.register.specs.Opening.{first_unfit_column, open_lines, opened_of, shown_for}
+use Rattle.register.specs.Opening.{first_unfit_column, open_lines, shape_in, opened_of, shown_for}
 
 module _ (file : List ℕ) where
   abbrev pub Passed : ℕ → Type 0
@@ -60,15 +60,14 @@ module _ (file : List ℕ) where
   body_last past h = ends (passes past (agrees (bytes_before (rows_in file) (width_in file) (columns_in file)) (directory_in file) h))
 
   -- what opening promises of its answer
-  abbrev Promised : Opened → Type 0
-  Promised answer = (answer ≡ opened_of file) × (shown_of answer ≡ shown_for file)
+  abbrev Promised : Result Shape Refusal → Type 0
+  Promised reply = record { answer : reply ≡ opened_of file; shown : shown_of reply ≡ shown_for file }
 
-  pub refused_by : {line : Line} → first_line (open_lines file) ≡ some line → {answer : Opened} → answer ≡ Refused (refusal line) →
-      Promised answer
-  unfolding opened_of shown_for
-  refused_by first said = rw (said, first) (refl, refl)
+  pub refused_by : {line : Line} → first_line (open_lines file) ≡ some line → Promised (Err line.refusal)
+  unfolding answer_of opened_of shown_for
+  refused_by first = rw first (record { answer = refl; shown = refl })
 
-  pub opened_by : first_line (open_lines file) ≡ none → {answer : Opened} →
-      answer ≡ Register (record { rows = rows_in file; columns = columns_in file }) → Promised answer
-  unfolding opened_of shown_for
-  opened_by first said = rw (said, first) (refl, refl)
+  pub opened_by : first_line (open_lines file) ≡ none → {rows columns : ℕ} → rows ≡ rows_in file → columns ≡ columns_in file →
+      Promised (Ok (record { rows = rows; columns = columns }))
+  unfolding answer_of opened_of shown_for
+  opened_by first rows_read columns_read = rw (rows_read, columns_read, first) (record { answer = refl; shown = refl })

@@ -1,7 +1,6 @@
 -- What is known past each test of `register::open`, of a trailer as it was read. Assumes nothing.
 --   known            the last bytes, as they were cut out, are the trailer
 --   past_1 .. past_6    the lines of the table that have been passed over
---   first_unfit      how far the directory is fit
 --   body             where all columns are fit, their slices are the body
 use Prim.Native.Nat.{ℕ, ◌+◌, ◌-◌, ◌*◌, ◌≤◌}
 use native.Mathlib.Omega.{arith}
@@ -14,11 +13,10 @@ use Rattle.basis.specs.Numbers.{little}
 use Rattle.basis.specs.Places.{first_place}
 use Rattle.basis.proofs.Places.{first_at_most}
 use Rattle.directory.specs.declared.Trailer.{Trailer}
-use Rattle.directory.specs.declared.FitSoFar.{FitSoFar}
 use Rattle.directory.specs.Layout.{slices_before, bytes_before}
 use Rattle.directory.specs.File.{trailer_in, rows_in, columns_in, mark, width_in, unfit_column}
 use Rattle.directory.specs.Trailer.{TrailerRead}
-use Rattle.directory.specs.Fitting.{FitUpTo}
+use Rattle.directory.specs.Fitting.{AllFit}
 use Rattle.register.specs.Opening.{first_unfit_column}
 use Rattle.register.proofs.Opening as opening
 use Rattle.register.proofs.Opening.{Passed}
@@ -60,19 +58,14 @@ module _ (file : List ℕ) (trailer : Trailer) (read : TrailerRead (trailer_in f
               let columns = read.columns in
               opening.directory_last _ past_4 (omega (arith, read.directory, last))
 
-          -- how far the directory is fit
-          pub first_unfit : (fit : FitSoFar) → FitUpTo file trailer.columns fit → fit.place ≡ first_unfit_column file
-          first_unfit fit said = said.first_unfit ∙ ap (first_place (unfit_column file)) read.columns
-
-          module _ (fit : FitSoFar) (said : FitUpTo file trailer.columns fit) (all : trailer.columns ≤ fit.place) where
+          -- past 6: all columns are fit
+          module _ (slices : ℕ) (said : AllFit file trailer.columns slices) where
             pub past_6 : Passed file 6
             past_6 =
                 let columns = read.columns in
-                opening.all_fit _ past_5 (omega (arith, first_unfit fit said, all))
+                let none_unfit = said.none_unfit in
+                opening.all_fit _ past_5 (rw (← columns) (omega arith))
 
-            -- where all columns are fit, their slices are the body
-            pub body : trailer.rows * fit.slices ≡ bytes_before (rows_in file) (width_in file) (columns_in file)
-            body =
-                let most = first_at_most (unfit_column file) (columns_in file) in
-                let whole : fit.place ≡ columns_in file = omega (arith, read.columns, all, first_unfit fit said, most) in
-                ap₂ ◌*◌ read.rows (said.counted ∙ ap (slices_before (width_in file)) whole)
+            -- and their slices are the body
+            pub body : trailer.rows * slices ≡ bytes_before (rows_in file) (width_in file) (columns_in file)
+            body = ap₂ ◌*◌ read.rows (said.counted ∙ ap (slices_before (width_in file)) read.columns)

@@ -3,9 +3,11 @@
 --   one_opening    the reply
 use mathlib.Core.Path.{◌≡◌}
 use Rattle.basis.proofs.SingleReply.{single_reply}
-use Rattle.register.specs.declared.Opened.{Opened}
+use Rattle.std.specs.Prelude.{Result}
+use Rattle.refusals.specs.declared.Refusal.{Refusal}
+use Rattle.register.specs.declared.Shape.{Shape}
 use Rattle.register.proofs.open.Reads.{Post as Opens}
 
-pub one_opening : (κs : _) (lent : _) (reply other : Opened) (exit exit' : _) →
+pub one_opening : (κs : _) (lent : _) (reply other : Result Shape Refusal) (exit exit' : _) →
     Opens κs lent reply exit → Opens κs lent other exit' → reply ≡ other
 one_opening κs lent reply other exit exit' first second = single_reply first.0 second.0

@@ -5,12 +5,12 @@
 
 ghost use Rattle.std.specs.Prelude.{◌≡◌};
 ghost use Rattle.directory.specs.File.{width_in, offset_in};
-ghost use Rattle.register.specs.Answers.{refused_with, refusal_of, shown_of};
+ghost use Rattle.register.specs.Answers.{shown_of};
 ghost use Rattle.register.specs.Opening.{opened_of, shown_for};
 ghost use Rattle.register.specs.Columns.{ColumnThere, EntryRead};
 
-use answers::Refusal;
 use limits::{ENTRY_BYTES, MOST_COLUMNS, MOST_ROWS, TRAILER_BYTES};
+use refusals::Refusal;
 
 // The mark 42 53 4C 31 at a file's end, as a number of four bytes.
 pub const MARK: usize = 0x314C5342;
@@ -22,62 +22,42 @@ pub struct Shape {
     pub columns: usize,
 }
 
-// The answer to opening a file.
-#[derive(Clone, Copy)]
-pub enum Opened {
-    Register(Shape),
-    Refused(Refusal),
-}
-
 // Opens a file: its rows and columns, or the first refusal that applies.
-pub fn open(file: &[u8]) -> Opened
+pub fn open(file: &[u8]) -> Result<Shape, Refusal>
     ensures answer { result ≡ opened_of file.now }
     ensures shown { shown_of result ≡ shown_for file.now }
 {
     let length = file.len();
     if length < TRAILER_BYTES {
-        return refused(1, 0);
+        return Err(Refusal::NoRegister);
     }
     let trailer = directory::read_trailer(&file[length - TRAILER_BYTES..]);
     if trailer.mark != MARK {
-        return refused(1, 0);
+        return Err(Refusal::NoRegister);
     }
     if trailer.version != 1 {
-        return refused(2, 0);
+        return Err(Refusal::OtherVersion);
     }
     if MOST_ROWS < trailer.rows {
-        return refused(3, 0);
+        return Err(Refusal::TooManyRows);
     }
     if trailer.columns == 0 {
-        return refused(4, 0);
+        return Err(Refusal::UnfitColumnCount);
     }
     if MOST_COLUMNS < trailer.columns {
-        return refused(4, 0);
+        return Err(Refusal::UnfitColumnCount);
     }
     if trailer.directory + ENTRY_BYTES * trailer.columns + TRAILER_BYTES != length {
-        return refused(5, 0);
+        return Err(Refusal::DirectoryMisplaced);
     }
-    let fit = directory::fit_columns(file, trailer.directory, trailer.rows, trailer.columns);
-    if fit.place < trailer.columns {
-        return refused(6, fit.place);
+    let slices = directory::fit_columns(file, trailer.directory, trailer.rows, trailer.columns)?;
+    if trailer.rows * slices != trailer.directory {
+        return Err(Refusal::BodyMisfit);
     }
-    if trailer.rows * fit.slices != trailer.directory {
-        return refused(7, 0);
-    }
-    Opened::Register(Shape {
+    Ok(Shape {
         rows: trailer.rows,
         columns: trailer.columns,
     })
-}
-
-// The refusal of a file that did not open, for a caller to pass on. Of one that did, all 0.
-pub fn refusal_of(opened: Opened) -> Refusal
-    ensures { result ≡ refusal_of opened }
-{
-    match opened {
-        Opened::Register(_) => answers::no_refusal(),
-        Opened::Refused(refusal) => refusal,
-    }
 }
 
 // The width of a column of an opened file, from its directory.
@@ -107,14 +87,4 @@ fn entry_of(file: &[u8], shape: Shape, column: usize) -> &[u8]
     let from = file.len() - TRAILER_BYTES - ENTRY_BYTES * (columns - column);
     let to = from + ENTRY_BYTES;
     &file[from..to]
-}
-
-fn refused(number: usize, place: usize) -> Opened
-    ensures { result ≡ refused_with number place }
-{
-    Opened::Refused(Refusal {
-        number,
-        place,
-        need: 0,
-    })
 }

@@ -1,8 +1,9 @@
 -- The widths of a register's columns: opening's refusals, then 10, or one width for each column. Assumes nothing.
-use Rattle.std.specs.Prelude.{ℕ, List, [], ◌∷◌, ◌++◌, map, ltb, length}
+use Rattle.std.specs.Prelude.{ℕ, List, [], ◌∷◌, ◌++◌, map, ltb, length, Result}
 use Rattle.basis.specs.Lists.{below}
-use Rattle.basis.specs.Refusals.{Line, refuse_for}
-use Rattle.answers.specs.declared.Answer.{Answer}
+use Rattle.basis.specs.Refusals.{Line, refuse, answer_of}
+use Rattle.refusals.specs.declared.Refusal.{Refusal}
+use Rattle.refusals.specs.declared.Refusal.TheVariants.{OutputTooShort}
 use Rattle.answers.specs.Answers as answers
 use Rattle.directory.specs.File.{columns_in, width_in}
 use Rattle.register.specs.Opening.{open_lines}
@@ -14,15 +15,15 @@ widths_of file = map (width_in file) (below (columns_in file))
 module _ (file : List ℕ) (room : ℕ) where
   -- 10: the output is too short; need: the number of columns
   unfoldable pub own_lines : List Line
-  own_lines = refuse_for 10 (ltb room (columns_in file)) (columns_in file) ∷ []
+  own_lines = refuse (OutputTooShort (columns_in file)) (ltb room (columns_in file)) ∷ []
 
   -- the file is opened first
   abbrev pub widths_lines : List Line
   widths_lines = open_lines file ++ own_lines
 
   -- the answer
-  abbrev pub measured_of : Answer
-  measured_of = answers.answer_of widths_lines (columns_in file)
+  abbrev pub measured_of : Result ℕ Refusal
+  measured_of = answer_of widths_lines (columns_in file)
 
   -- what is shown, from the same table
   abbrev pub shown_for : List ℕ

@@ -1,8 +1,9 @@
 -- Writing a register: refusals 3, 4, 6, 9, 8, 10 in that order, or its file. Assumes nothing.
-use Rattle.std.specs.Prelude.{ℕ, ◌*◌, List, [], ◌∷◌, not, ◌||◌, ltb, eqb, length}
-use Rattle.basis.specs.Refusals.{Line, refuse, refuse_at, refuse_for}
+use Rattle.std.specs.Prelude.{ℕ, ◌*◌, List, [], ◌∷◌, not, ◌||◌, ltb, eqb, length, Result}
+use Rattle.basis.specs.Refusals.{Line, refuse, answer_of}
 use Rattle.limits.specs.Limits.{most_rows, most_columns}
-use Rattle.answers.specs.declared.Answer.{Answer}
+use Rattle.refusals.specs.declared.Refusal.{Refusal}
+use Rattle.refusals.specs.declared.Refusal.TheVariants.{TooManyRows, UnfitColumnCount, UnfitColumn, CodeTooLarge, UnfitCodeCount, OutputTooShort}
 use Rattle.answers.specs.Answers as answers
 use Rattle.table.specs.Table.{first_unfit_width, first_too_large}
 use Rattle.filing.specs.Layout.{file_of, file_length}
@@ -16,17 +17,17 @@ module _ (rows : ℕ) (widths codes : List ℕ) (room : ℕ) where
   -- 10: the output is too short; need: the file's length
   unfoldable pub write_lines : List Line
   write_lines =
-      refuse 3 (ltb most_rows rows)
-      ∷ refuse 4 (eqb (length widths) 0 || ltb most_columns (length widths))
-      ∷ refuse_at 6 (ltb (first_unfit_width widths) (length widths)) (first_unfit_width widths)
-      ∷ refuse 9 (not (eqb (length codes) (rows * length widths)))
-      ∷ refuse_at 8 (ltb (first_too_large widths codes) (length codes)) (first_too_large widths codes)
-      ∷ refuse_for 10 (ltb room (file_length rows widths)) (file_length rows widths)
+      refuse TooManyRows (ltb most_rows rows)
+      ∷ refuse UnfitColumnCount (eqb (length widths) 0 || ltb most_columns (length widths))
+      ∷ refuse (UnfitColumn (first_unfit_width widths)) (ltb (first_unfit_width widths) (length widths))
+      ∷ refuse UnfitCodeCount (not (eqb (length codes) (rows * length widths)))
+      ∷ refuse (CodeTooLarge (first_too_large widths codes)) (ltb (first_too_large widths codes) (length codes))
+      ∷ refuse (OutputTooShort (file_length rows widths)) (ltb room (file_length rows widths))
       ∷ []
 
   -- the answer
-  abbrev pub written_of : Answer
-  written_of = answers.answer_of write_lines (file_length rows widths)
+  abbrev pub written_of : Result ℕ Refusal
+  written_of = answer_of write_lines (file_length rows widths)
 
   -- what is shown, from the same table
   abbrev pub shown_for : List ℕ

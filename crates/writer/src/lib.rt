@@ -7,41 +7,41 @@ ghost use Rattle.std.specs.Prelude.{◌≡◌, length};
 ghost use Rattle.answers.specs.Answers.{shown_of};
 ghost use Rattle.writer.specs.Writing.{written_of, shown_for, left_in};
 
-use answers::{Answer, refused};
 use limits::{MOST_COLUMNS, MOST_ROWS};
+use refusals::Refusal;
 
 // Writes the file of so many rows, with these widths and these codes, row after row, to the front
 // of `out`. Refused, it changes nothing.
-pub fn write(rows: usize, widths: &[u8], codes: &[u64], out: &mut [u8]) -> Answer
+pub fn write(rows: usize, widths: &[u8], codes: &[u64], out: &mut [u8]) -> Result<usize, Refusal>
     ensures answer { result ≡ written_of rows widths.now codes.now (length out.old) }
     ensures shown { shown_of result ≡ shown_for rows widths.now codes.now (length out.old) }
     ensures left { out.new ≡ left_in rows widths.now codes.now out.old }
 {
     if MOST_ROWS < rows {
-        return refused(3, 0, 0);
+        return Err(Refusal::TooManyRows);
     }
     let columns = widths.len();
     if columns == 0 {
-        return refused(4, 0, 0);
+        return Err(Refusal::UnfitColumnCount);
     }
     if MOST_COLUMNS < columns {
-        return refused(4, 0, 0);
+        return Err(Refusal::UnfitColumnCount);
     }
     let unfit = table::first_unfit(widths);
     if unfit < columns {
-        return refused(6, unfit, 0);
+        return Err(Refusal::UnfitColumn(unfit));
     }
     if codes.len() != rows * columns {
-        return refused(9, 0, 0);
+        return Err(Refusal::UnfitCodeCount);
     }
     let large = table::first_too_large(rows, widths, codes);
     if large < codes.len() {
-        return refused(8, large, 0);
+        return Err(Refusal::CodeTooLarge(large));
     }
     let need = filing::file_length(rows, widths);
     if out.len() < need {
-        return refused(10, 0, need);
+        return Err(Refusal::OutputTooShort(need));
     }
     filing::write_file(rows, widths, codes, out);
-    Answer::Elements(need)
+    Ok(need)
 }

@@ -75,6 +75,7 @@ returns-then-unfit_entry c =
     let turn = c.loop-column in
     let unfit = unfit_as_said (goal.at.returns-then-unfit_entry c).In-loop-column _ c.unfit_entry.ensures ∙ c.if-unfit_entry.true in
     record {
+      is_there = omega arith;
       first_unfit = sym (first_is _ _ turn.column (omega arith) unfit turn.invariant.fit);
       counted = turn.invariant.counted;
       few = turn.invariant.few;
@@ -94,7 +95,7 @@ returns c =
     let turn = c.loop-column in
     let end : turn.column ≡ c.args.columns = omega arith in
     record {
-      first_unfit = end ∙ sym (first_is_none _ _ (λ k h. turn.invariant.fit k (omega arith)));
-      counted = turn.invariant.counted;
-      few = turn.invariant.few;
+      none_unfit = first_is_none _ _ (λ k h. turn.invariant.fit k (omega arith));
+      counted = rw (← end) turn.invariant.counted;
+      few = rw (← end) turn.invariant.few;
     }

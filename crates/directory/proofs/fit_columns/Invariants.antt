@@ -1,5 +1,5 @@
--- What the loop of `fit_columns` keeps, and what each turn makes less.
-use Prim.Native.Nat.{ℕ, ◌-◌, ◌*◌, ◌≤◌, ◌<◌}
+-- What the loop of `fit_columns` keeps. Assumes nothing.
+use Prim.Native.Nat.{ℕ, ◌*◌, ◌≤◌, ◌<◌}
 use mathlib.Core.Path.{◌≡◌}
 use mathlib.Core.List.{List}
 use mathlib.Core.Bool.{false}
@@ -17,6 +17,3 @@ pub record Passed (file : List ℕ) (columns slices column : ℕ) : Type 0 where
 
 abbrev pub invariant-loop-column : goal.invariant-loop-column
 invariant-loop-column l = Passed l.file l.columns l.slices l.column
-
-abbrev pub decreases-loop-column : goal.decreases-loop-column
-decreases-loop-column l = l.columns - l.column

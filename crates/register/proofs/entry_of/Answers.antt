@@ -6,7 +6,7 @@ use mathlib.Core.List.{List}
 use lib.ListN.{length}
 use Rattle.limits.specs.Limits.{most_columns, entry_bytes, trailer_bytes}
 use Rattle.register.specs.declared.Shape.{Shape}
-use Rattle.register.specs.declared.Opened.TheVariants.{Register}
+use Rattle.std.specs.Prelude.{Ok}
 use Rattle.directory.specs.File.{directory_in}
 use Rattle.register.specs.Opening.{opened_of}
 use Rattle.register.proofs.Fit.{opened_is_fit, columns_as_opened}
@@ -14,7 +14,7 @@ use Rattle.directory.proofs.Entries.{entry_cut}
 use Rattle.register.proofs.entry_of.Goals as goal
 
 -- an opened file has room for its directory and its trailer
-room : (file : List ℕ) (shape : Shape) → opened_of file ≡ Register shape →
+room : (file : List ℕ) (shape : Shape) → opened_of file ≡ Ok shape →
     (shape.columns ≤ most_columns) × (directory_in file + entry_bytes * shape.columns + trailer_bytes ≡ length file)
 room file shape opened =
     let fit = (opened_is_fit file shape opened).0 in

@@ -1,0 +1,2 @@
+-- The numbers by which a refusal is shown.
+pub mod Numbers
