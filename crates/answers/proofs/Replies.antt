@@ -2,6 +2,7 @@
 --   Replied        an answer and a buffer that are the table's
 --   refused_by     a line answers: its refusal, and the buffer as it was
 --   accepted_by    none does: the elements, and the list at the front of the buffer
+--   answer_refused, answer_accepted    the answer alone, of any value
 --   told_is_accepted    where a value is told, no line answers, and it is the call's
 --   refusal_told        where a refusal is told, it is that of the line that answers
 use Prim.Native.Nat.{ℕ}
@@ -32,6 +33,16 @@ module _ {A : Type 0} (lines : List Line) (elements : ℕ) (list out : List A) w
       Replied (Ok told) after
   unfolding answer_of shown_for left_by
   accepted_by first same written = rw (same, written, first) (record { answer = refl; shown = refl; left = refl })
+
+-- the answer alone
+module _ {A : Type 0} (lines : List Line) (value : A) where
+  pub answer_refused : {line : Line} → first_line lines ≡ some line → answer_of lines value ≡ Err line.refusal
+  unfolding answer_of
+  answer_refused first = rw first refl
+
+  pub answer_accepted : first_line lines ≡ none → answer_of lines value ≡ Ok value
+  unfolding answer_of
+  answer_accepted first = rw first refl
 
 -- a refusal is no value
 no_line : {A : Type 0} (first : Option Line) (value told : A) →

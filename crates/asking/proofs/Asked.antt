@@ -19,14 +19,11 @@ use Rattle.limits.specs.Limits.{most_tests}
 use Rattle.basis.specs.Refusals.{Line, first_line}
 use Rattle.basis.proofs.Members.{◌∈◌}
 use Rattle.basis.proofs.Refusals.{EachFails, none_when_accepted, each_fails, neither_answers, at_first, passes}
-use Rattle.answers.specs.declared.Refusal.{Refusal}
-use Rattle.answers.specs.Answers.{refusal}
+use Rattle.refusals.specs.declared.Refusal.{Refusal}
 use Rattle.register.specs.declared.Shape.{Shape}
-use Rattle.register.specs.declared.Opened.TheVariants.{Register, Refused}
-use Rattle.directory.specs.File.{rows_in, columns_in}
-use Rattle.register.specs.Opening.{open_lines, opened_of}
-use Rattle.register.proofs.Fit.{register_told}
-use Rattle.register.proofs.PassedOn.{refusal_told}
+use Rattle.std.specs.Prelude.{Ok, Err}
+use Rattle.answers.proofs.Replies.{answer_accepted, told_is_accepted, refusal_told}
+use Rattle.register.specs.Opening.{open_lines, shape_in, opened_of}
 use Rattle.query.specs.declared.Test.{Test}
 use Rattle.query.specs.declared.Query.{Query}
 use Rattle.query.specs.Tests.{tests_of}
@@ -41,9 +38,9 @@ module _ (file : List ℕ) (size : ℕ) (query : Query) where
     apart : (first_line (open_lines file) ≡ none) × (first_line (query_lines file size query) ≡ none)
     apart = neither_answers (open_lines file) (query_lines file size query) yes
 
-    pub opens : opened_of file ≡ Register (record { rows = rows_in file; columns = columns_in file })
+    pub opens : opened_of file ≡ Ok (shape_in file)
     unfolding opened_of
-    opens = rw apart.0
+    opens = answer_accepted _ _ apart.0
 
     failing : EachFails (query_lines file size query)
     failing = each_fails (query_lines file size query) (none_when_accepted (query_lines file size query) apart.1)
@@ -67,16 +64,16 @@ module _ (file : List ℕ) (size : ℕ) (query : Query) where
     pub fits : (test : Test) → test ∈ tests_of query → FitTest file test
     fits = each_test_fits file 0 (tests_of query) each_fits
 
-  pub asked_passes : (shape : Shape) → asked_of file size query ≡ Register shape → first_line (ask_lines file size query) ≡ none
+  pub asked_passes : (shape : Shape) → asked_of file size query ≡ Ok shape → first_line (ask_lines file size query) ≡ none
   unfolding asked_of
-  asked_passes shape told = (register_told (first_line (ask_lines file size query)) _ shape told).0
+  asked_passes shape told = (told_is_accepted (ask_lines file size query) (shape_in file) shape told).0
 
-  pub opened_as_asked : (shape : Shape) → asked_of file size query ≡ Register shape → opened_of file ≡ Register shape
+  pub opened_as_asked : (shape : Shape) → asked_of file size query ≡ Ok shape → opened_of file ≡ Ok shape
   unfolding asked_of
   opened_as_asked shape told =
-      opens (asked_passes shape told) ∙ ap Register (register_told (first_line (ask_lines file size query)) _ shape told).1
+      opens (asked_passes shape told) ∙ ap Ok (sym (told_is_accepted (ask_lines file size query) (shape_in file) shape told).1)
 
-  pub judged_as_asked : length query.tests ≡ most_tests → (shape : Shape) → asked_of file size query ≡ Register shape →
+  pub judged_as_asked : length query.tests ≡ most_tests → (shape : Shape) → asked_of file size query ≡ Ok shape →
       Judged file shape query.tests query.count × (unfit_size size ≡ false)
   judged_as_asked slots shape told =
       let yes = asked_passes shape told in (
@@ -85,7 +82,7 @@ module _ (file : List ℕ) (size : ℕ) (query : Query) where
         fit_size yes,
       )
 
-  pub asked_stops : (refused : Refusal) → asked_of file size query ≡ Refused refused →
-      (line : Line) × (first_line (ask_lines file size query) ≡ some line) × (refusal line ≡ refused)
+  pub asked_stops : (refusal : Refusal) → asked_of file size query ≡ Err refusal →
+      (line : Line) × (first_line (ask_lines file size query) ≡ some line) × (line.refusal ≡ refusal)
   unfolding asked_of
-  asked_stops refused told = refusal_told (first_line (ask_lines file size query)) refused _ told
+  asked_stops refusal told = refusal_told (ask_lines file size query) (shape_in file) refusal told

@@ -1,6 +1,5 @@
 -- Tests held to a file, each under its number: first by its column, refusal 12, and then by its literal, refusal 13. Assumes nothing.
 --   FitTest, each_test_fits      where no line answers, every test fits the file
---   fit_says, unfit_says         what a verdict tells of the line that answers
 --   no_such_column, too_large_a_literal, fit_test    the verdict on one test
 --   fit_goes_on, unfit_answers   a walk through the tests' lines goes on past a test that fits, and ends at one that does not
 --   unfit_is_not_fit             a verdict is one or the other
@@ -16,25 +15,25 @@ use mathlib.Core.Option.{Option, none, some}
 use borrow.Author.Tests.{le-leb, lt-leb, leb-false}
 use lib.ListN.{length, take, drop}
 use lib.Seq.{drop-cons, get_or-take, length-take-le}
-use Rattle.basis.specs.Refusals.{Line, refuse_at, first_line}
+use Rattle.basis.specs.Refusals.{Line, refuse, first_line}
 use Rattle.basis.proofs.Lists.{at_is_member}
 use Rattle.basis.proofs.Members.{◌∈◌}
 use Rattle.basis.proofs.Refusals.{none_when_accepted, each_fails, neither_answers}
 use Rattle.basis.proofs.Refusals.{Past, at_first, passes, stops, ends, passes_all, stops_within}
 use Rattle.limits.specs.Limits.{most_tests}
-use Rattle.answers.specs.declared.Refusal.{Refusal}
-use Rattle.answers.specs.Answers.{refusal}
+use Rattle.refusals.specs.declared.Refusal.{Refusal}
+use Rattle.refusals.specs.declared.Refusal.TheVariants.{NoSuchColumn, LiteralTooLarge}
+use Rattle.answers.proofs.Replies.{answer_refused, answer_accepted, told_is_accepted, refusal_told}
 use Rattle.codes.specs.Width.{too_large}
 use Rattle.register.specs.declared.Shape.{Shape}
-use Rattle.register.specs.declared.Opened.TheVariants.{Register}
+use Rattle.std.specs.Prelude.{Result, Ok, Err}
 use Rattle.directory.specs.File.{columns_in, width_in}
 use Rattle.register.specs.Opening.{opened_of}
 use Rattle.register.proofs.Fit.{columns_as_opened}
 use Rattle.query.specs.declared.Test.{Test}
 use Rattle.query.specs.Tests.{literal_of, empty_slot, test_at}
-use Rattle.asking.specs.declared.Verdict.TheVariants.{Fit, Unfit}
 use Rattle.asking.specs.Refusals.{lines_for, lines_for_all}
-use Rattle.asking.specs.Verdicts.{verdict_of, unfit_with}
+use Rattle.asking.specs.Verdicts.{verdict_of}
 use Rattle.asking.specs.Judged.{Judged}
 
 -- a test fits a file: its column is there, and its literal is none too large for it
@@ -59,35 +58,26 @@ each_test_fits file place (next ∷ tests) none_answers test m =
     go here later (inl same) = rw same here
     go here later (inr m) = later m
 
-pub fit_says : (first : Option Line) → verdict_of first ≡ Fit → first ≡ none
-fit_says none e = refl
-fit_says (some line) e = let z : ◌≡◌ {A = ℕ} 0 1 = cc in absurd (omega arith)
-
-pub unfit_says : (first : Option Line) (refused : Refusal) → verdict_of first ≡ Unfit refused →
-    (line : Line) × (first ≡ some line) × (refusal line ≡ refused)
-unfit_says none refused e = let z : ◌≡◌ {A = ℕ} 0 1 = cc in absurd (omega arith)
-unfit_says (some line) refused e = (line, refl, cc)
-
-pub unfit_is_not_fit : {refused : Refusal} → Unfit refused ≡ Fit → ⊥
+pub unfit_is_not_fit : {refusal : Refusal} → ◌≡◌ {A = Result (Unit {0}) Refusal} (Err refusal) (Ok tt) → ⊥
 unfit_is_not_fit e = let z : ◌≡◌ {A = ℕ} 0 1 = cc in omega arith
 
 module _ (file : List ℕ) (place : ℕ) (test : Test) where
-  pub no_such_column : columns_in file ≤ test.column → verdict_of (first_line (lines_for file place test)) ≡ unfit_with 12 place
-  no_such_column h = ap verdict_of (stops (at_first (lines_for file place test)) (le-leb (columns_in file) test.column h))
+  pub no_such_column : columns_in file ≤ test.column → verdict_of (lines_for file place test) ≡ Err (NoSuchColumn place)
+  no_such_column h = answer_refused _ _ (stops (at_first (lines_for file place test)) (le-leb (columns_in file) test.column h))
 
   module _ (there : test.column < columns_in file) where
     -- past 12, the line on the literal is left
     past_column : Past (lines_for file place test)
-        (refuse_at 13 (too_large (width_in file test.column) (literal_of test.comparison)) place ∷ [])
+        (refuse (LiteralTooLarge place) (too_large (width_in file test.column) (literal_of test.comparison)) ∷ [])
     past_column = passes (at_first (lines_for file place test)) (lt-leb (columns_in file) test.column there)
 
     pub too_large_a_literal : too_large (width_in file test.column) (literal_of test.comparison) ≡ true →
-        verdict_of (first_line (lines_for file place test)) ≡ unfit_with 13 place
-    too_large_a_literal large = ap verdict_of (stops past_column large)
+        verdict_of (lines_for file place test) ≡ Err (LiteralTooLarge place)
+    too_large_a_literal large = answer_refused _ _ (stops past_column large)
 
     pub fit_test : too_large (width_in file test.column) (literal_of test.comparison) ≡ false →
-        verdict_of (first_line (lines_for file place test)) ≡ Fit
-    fit_test small = ap verdict_of (ends (passes past_column small))
+        verdict_of (lines_for file place test) ≡ Ok tt
+    fit_test small = answer_accepted _ _ (ends (passes past_column small))
 
 module _ {all : List Line} (file : List ℕ) (place : ℕ) (tests : List Test) (t : ℕ) (there : t < length tests)
     (past : Past all (lines_for_all file place (drop t tests))) where
@@ -96,17 +86,17 @@ module _ {all : List Line} (file : List ℕ) (place : ℕ) (tests : List Test) (
   unfolding lines_for_all
   at_test = rw (drop-cons tests t empty_slot there) at past
 
-  pub fit_goes_on : verdict_of (first_line (lines_for file place (test_at tests t))) ≡ Fit →
+  pub fit_goes_on : verdict_of (lines_for file place (test_at tests t)) ≡ Ok tt →
       Past all (lines_for_all file (suc place) (drop (suc t) tests))
-  fit_goes_on fit = passes_all (lines_for file place (test_at tests t)) _ at_test (fit_says _ fit)
+  fit_goes_on fit = passes_all (lines_for file place (test_at tests t)) _ at_test (told_is_accepted (lines_for file place (test_at tests t)) tt tt fit).0
 
-  pub unfit_answers : (refused : Refusal) → verdict_of (first_line (lines_for file place (test_at tests t))) ≡ Unfit refused →
-      verdict_of (first_line all) ≡ Unfit refused
-  unfit_answers refused unfit =
-      let by = unfit_says (first_line (lines_for file place (test_at tests t))) refused unfit in
-      ap verdict_of (stops_within (lines_for file place (test_at tests t)) _ at_test by.0 by.1) ∙ ap Unfit by.2
+  pub unfit_answers : (refusal : Refusal) → verdict_of (lines_for file place (test_at tests t)) ≡ Err refusal →
+      verdict_of all ≡ Err refusal
+  unfit_answers refusal unfit =
+      let by = refusal_told (lines_for file place (test_at tests t)) tt refusal unfit in
+      answer_refused _ _ (stops_within (lines_for file place (test_at tests t)) _ at_test by.0 by.1) ∙ ap Err by.2
 
-pub judged : (file : List ℕ) (shape : Shape) (tests : List Test) (count : ℕ) → opened_of file ≡ Register shape → count ≤ most_tests →
+pub judged : (file : List ℕ) (shape : Shape) (tests : List Test) (count : ℕ) → opened_of file ≡ Ok shape → count ≤ most_tests →
     count ≤ length tests → (place : ℕ) → first_line (lines_for_all file place (take count tests)) ≡ none → Judged file shape tests count
 judged file shape tests count opened few there place none_answers =
     record {

@@ -3,7 +3,7 @@ use Rattle.std.specs.Prelude.{ℕ, ◌≤◌, ◌<◌, ◌≡◌, List, false}
 use Rattle.limits.specs.Limits.{most_tests}
 use Rattle.codes.specs.Width.{too_large}
 use Rattle.register.specs.declared.Shape.{Shape}
-use Rattle.register.specs.declared.Opened.TheVariants.{Register}
+use Rattle.std.specs.Prelude.{Ok}
 use Rattle.directory.specs.File.{width_in}
 use Rattle.register.specs.Opening.{opened_of}
 use Rattle.query.specs.declared.Test.{Test}
@@ -12,7 +12,7 @@ use Rattle.query.specs.Tests.{literal_of, test_at}
 
 -- a query as it has been judged: the file opened, and every test fits it
 pub record Judged (file : List ℕ) (shape : Shape) (tests : List Test) (count : ℕ) : Type 0 where
-  pub opened : opened_of file ≡ Register shape
+  pub opened : opened_of file ≡ Ok shape
   pub few : count ≤ most_tests
   pub columns : (t : ℕ) → t < count → (test_at tests t).column < shape.columns
   pub literals : (t : ℕ) → t < count →

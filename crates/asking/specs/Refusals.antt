@@ -1,13 +1,13 @@
 -- What is refused of a query that is held to a file: the file's refusals, then 14, 11, and each test in turn 12 then 13. Assumes nothing.
-use Rattle.std.specs.Prelude.{ℕ, suc, List, [], ◌∷◌, ◌++◌, leb, ltb}
-use Rattle.basis.specs.Refusals.{Line, refuse, refuse_at, first_line, answer_by}
+use Rattle.std.specs.Prelude.{ℕ, suc, List, [], ◌∷◌, ◌++◌, leb, ltb, Result}
+use Rattle.basis.specs.Refusals.{Line, refuse, answer_of}
 use Rattle.limits.specs.Limits.{most_tests}
-use Rattle.answers.specs.Answers.{refusal}
 use Rattle.codes.specs.Width.{too_large}
-use Rattle.register.specs.declared.Opened.{Opened}
-use Rattle.register.specs.declared.Opened.TheVariants.{Register, Refused}
-use Rattle.directory.specs.File.{rows_in, columns_in, width_in}
-use Rattle.register.specs.Opening.{open_lines}
+use Rattle.refusals.specs.declared.Refusal.{Refusal}
+use Rattle.refusals.specs.declared.Refusal.TheVariants.{TooManyTests, NoSuchColumn, LiteralTooLarge, UnfitSegmentSize}
+use Rattle.register.specs.declared.Shape.{Shape}
+use Rattle.directory.specs.File.{columns_in, width_in}
+use Rattle.register.specs.Opening.{open_lines, shape_in}
 use Rattle.query.specs.declared.Test.{Test}
 use Rattle.query.specs.declared.Query.{Query}
 use Rattle.query.specs.Tests.{literal_of, tests_of}
@@ -16,8 +16,8 @@ use Rattle.asking.specs.Sizes.{unfit_size}
 -- a test under its number: 12, no such column; 13, a literal too large for its column; place: that number
 abbrev pub lines_for : List ℕ → ℕ → Test → List Line
 lines_for file place test =
-    refuse_at 12 (leb (columns_in file) test.column) place
-    ∷ refuse_at 13 (too_large (width_in file test.column) (literal_of test.comparison)) place
+    refuse (NoSuchColumn place) (leb (columns_in file) test.column)
+    ∷ refuse (LiteralTooLarge place) (too_large (width_in file test.column) (literal_of test.comparison))
     ∷ []
 
 -- each test in turn, numbered on from any place
@@ -28,14 +28,15 @@ lines_for_all file place (test ∷ tests) = lines_for file place test ++ lines_f
 module _ (file : List ℕ) (size : ℕ) (query : Query) where
   -- 14: segment size; 11: too many tests; the tests
   unfoldable pub query_lines : List Line
-  query_lines = refuse 14 (unfit_size size) ∷ refuse 11 (ltb most_tests query.count) ∷ lines_for_all file 0 (tests_of query)
+  query_lines =
+      refuse UnfitSegmentSize (unfit_size size)
+      ∷ refuse TooManyTests (ltb most_tests query.count)
+      ∷ lines_for_all file 0 (tests_of query)
 
   -- the file is opened first
   abbrev pub ask_lines : List Line
   ask_lines = open_lines file ++ query_lines
 
   -- the answer: the rows and columns of a file that the query fits, or the first refusal
-  unfoldable pub asked_of : Opened
-  asked_of =
-      answer_by (λ line. Refused (refusal line)) (Register (record { rows = rows_in file; columns = columns_in file }))
-      (first_line ask_lines)
+  unfoldable pub asked_of : Result Shape Refusal
+  asked_of = answer_of ask_lines (shape_in file)

@@ -3,62 +3,34 @@
 
 #![tactic(auto)]
 
-ghost use Rattle.std.specs.Prelude.{◌≡◌, false};
-ghost use Rattle.basis.specs.Refusals.{first_line};
+ghost use Rattle.std.specs.Prelude.{◌≡◌, false, Ok};
 ghost use Rattle.register.specs.declared.Shape.{Shape};
-ghost use Rattle.register.specs.declared.Opened.TheVariants.{Register};
 ghost use Rattle.register.specs.Opening.{opened_of};
-ghost use Rattle.register.specs.Answers.{refused_with};
 ghost use Rattle.asking.specs.Sizes.{unfit_size};
 ghost use Rattle.asking.specs.Refusals.{lines_for, asked_of};
-ghost use Rattle.asking.specs.Verdicts.{verdict_of, unfit_with, ToJudge, TestsJudged};
+ghost use Rattle.asking.specs.Verdicts.{verdict_of, ToJudge, TestsJudged};
 ghost use Rattle.asking.specs.Judged.{Judged};
 
-use answers::Refusal;
 use limits::{LONGEST_SEGMENT, MOST_TESTS};
 use query::{Query, Test};
-use register::{Opened, Shape};
-
-// Whether something fits, or its first refusal.
-#[derive(Clone, Copy)]
-pub enum Verdict {
-    Fit,
-    Unfit(Refusal),
-}
+use refusals::Refusal;
+use register::Shape;
 
 // Holds a query to a file: the file's rows and columns where the query fits it, or the first refusal.
-pub fn ask(file: &[u8], size: usize, query: Query) -> Opened
+pub fn ask(file: &[u8], size: usize, query: Query) -> Result<Shape, Refusal>
     ensures answer { result ≡ asked_of file.now size query }
-    ensures fit { (shape : Shape) → result ≡ Register shape →
+    ensures fit { (shape : Shape) → result ≡ Ok shape →
         Judged file.now shape query.tests query.count × (unfit_size size ≡ false) }
 {
-    let opened = register::open(file);
-    let Opened::Register(shape) = opened else {
-        return opened;
-    };
+    let shape = register::open(file)?;
     if unfit_size(size) {
-        return refused(14);
+        return Err(Refusal::UnfitSegmentSize);
     }
-    let count = query.count;
-    if MOST_TESTS < count {
-        return refused(11);
+    if MOST_TESTS < query.count {
+        return Err(Refusal::TooManyTests);
     }
-    let tests = query.tests;
-    let verdict = judge_tests(file, shape, tests, count);
-    if let Verdict::Unfit(refusal) = verdict {
-        return Opened::Refused(refusal);
-    }
-    opened
-}
-
-fn refused(number: usize) -> Opened
-    ensures { result ≡ refused_with number 0 }
-{
-    Opened::Refused(Refusal {
-        number,
-        place: 0,
-        need: 0,
-    })
+    judge_tests(file, shape, query.tests, query.count)?;
+    Ok(shape)
 }
 
 // Whether a segment may not have this many rows.
@@ -72,45 +44,33 @@ pub fn unfit_size(size: usize) -> bool
 }
 
 // Holds the tests to an opened file in turn, and ends at the first that does not fit.
-pub fn judge_tests(file: &[u8], shape: Shape, tests: [Test; MOST_TESTS], count: usize) -> Verdict
+pub fn judge_tests(
+    file: &[u8],
+    shape: Shape,
+    tests: [Test; MOST_TESTS],
+    count: usize,
+) -> Result<(), Refusal>
     requires { ToJudge file.now shape count }
     ensures { TestsJudged file.now shape tests count result }
 {
-    let mut t = 0;
-    while t < count {
-        let test = tests[t];
-        let verdict = judge_test(file, shape, test, t);
-        let Verdict::Fit = verdict else {
-            return verdict;
-        };
-        t = t + 1;
+    for t in 0..count {
+        judge_test(file, shape, tests[t], t)?;
     }
-    Verdict::Fit
+    Ok(())
 }
 
 // Holds a test to an opened file, under its place: first by its column, then by its literal.
-pub fn judge_test(file: &[u8], shape: Shape, test: Test, place: usize) -> Verdict
-    requires { opened_of file.now ≡ Register shape }
-    ensures { result ≡ verdict_of (first_line (lines_for file.now place test)) }
+pub fn judge_test(file: &[u8], shape: Shape, test: Test, place: usize) -> Result<(), Refusal>
+    requires { opened_of file.now ≡ Ok shape }
+    ensures { result ≡ verdict_of (lines_for file.now place test) }
 {
     let column = test.column;
     if shape.columns <= column {
-        return unfit(12, place);
+        return Err(Refusal::NoSuchColumn(place));
     }
-    let comparison = test.comparison;
-    let literal = query::literal_of(comparison);
+    let literal = query::literal_of(test.comparison);
     if codes::too_large(register::width_at(file, shape, column), literal) {
-        return unfit(13, place);
+        return Err(Refusal::LiteralTooLarge(place));
     }
-    Verdict::Fit
-}
-
-fn unfit(number: usize, place: usize) -> Verdict
-    ensures { result ≡ unfit_with number place }
-{
-    Verdict::Unfit(Refusal {
-        number,
-        place,
-        need: 0,
-    })
+    Ok(())
 }

@@ -6,7 +6,7 @@ use mathlib.Core.Path.{◌≡◌}
 use mathlib.Core.List.{List}
 use Rattle.codes.specs.Bytes.{joined}
 use Rattle.register.specs.declared.Shape.{Shape}
-use Rattle.register.specs.declared.Opened.TheVariants.{Register}
+use Rattle.std.specs.Prelude.{Ok}
 use Rattle.directory.specs.File.{width_in, offset_in}
 use Rattle.register.specs.Cells.{byte_at, bytes_at, code_at}
 use Rattle.register.specs.Opening.{opened_of}
@@ -26,7 +26,7 @@ code_within {file} {shape} {column} {row} cell =
           byte_as_opened file shape cell.opened column slice row cell.column_there inside cell.row_there;
     }
 
-module _ (file : List ℕ) (shape : Shape) (opened : opened_of file ≡ Register shape) (column row : ℕ) where
+module _ (file : List ℕ) (shape : Shape) (opened : opened_of file ≡ Ok shape) (column row : ℕ) where
   pub code_gathered :
       code_at file column row ≡ joined (width_in file column) (gathered file (width_in file column) (offset_in file column) shape.rows row)
   unfolding code_at bytes_at byte_at

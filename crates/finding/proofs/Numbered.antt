@@ -14,7 +14,6 @@ use Rattle.basis.specs.Lists.{all}
 use Rattle.basis.specs.Refusals.{Line, first_line}
 use Rattle.basis.proofs.Truth.{holds, both}
 use Rattle.basis.proofs.Passing.{both_pass}
-use Rattle.answers.specs.Answers.{refusal}
 use Rattle.register.specs.Opening.{open_lines}
 use Rattle.query.specs.declared.Test.{Test}
 use Rattle.query.specs.declared.Query.{Query}
@@ -59,7 +58,7 @@ module _ (file : List ℕ) (size : ℕ) (query : Query) (room : ℕ) where
       (joined_numbered (open_lines file) (query_lines file size query) tt (tests_numbered file 0 (tests_of query))) tt
 
   pub refusal_of_line : (line : Line) → first_line (scan_lines file size query room) ≡ some line →
-      (scanned_of file size query room).refusal ≡ refusal line
+      (scanned_of file size query room).refusal ≡ line.refusal
   unfolding scanned_of
   refusal_of_line line first = rw first
 

@@ -2,7 +2,7 @@
 use Rattle.std.specs.Prelude.{ℕ, ◌≡◌, List, [], cond, eqb}
 use Rattle.basis.specs.Lists.{those, below}
 use Rattle.limits.specs.Limits.{most_rows}
-use Rattle.answers.specs.declared.Refusal.{Refusal}
+use Rattle.refusals.specs.declared.Refusal.{Refusal}
 use Rattle.directory.specs.File.{rows_in, columns_in}
 use Rattle.query.specs.declared.Query.{Query}
 use Rattle.query.specs.Tests.{empty_slot, slots_of}

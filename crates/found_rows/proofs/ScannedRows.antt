@@ -12,8 +12,8 @@ use lib.Seq.{take_at}
 use Rattle.basis.specs.Lists.{those, below}
 use Rattle.basis.proofs.Buffers.{laid_front}
 use Rattle.basis.proofs.Those.{length_those}
-use Rattle.answers.specs.declared.Answer.TheVariants.{Elements}
-use Rattle.answers.specs.Answers.{answer_of}
+use Rattle.std.specs.Prelude.{Ok}
+use Rattle.basis.specs.Refusals.{answer_of}
 use Rattle.directory.specs.File.{rows_in}
 use Rattle.register.proofs.Fit.{opened_is_fit}
 use Rattle.query.specs.declared.Query.{Query}
@@ -56,9 +56,9 @@ module _ (file : List ℕ) (size : ℕ) (query : Query) (out : List ℕ) (yes : 
       ∙ sym (ap (λ scanned. scanned.matches) (reply file size query (length out) yes))
 
   pub list_answers : (room : ℕ) → (scanned_of file size query (length out)).matches ≤ room →
-      listed_of (rows_in file) bits room ≡ Elements (scanned_of file size query (length out)).matches
+      listed_of (rows_in file) bits room ≡ Ok (scanned_of file size query (length out)).matches
   unfolding answer_of
   list_answers room fits =
       let few = (opened_is_fit file _ (opens file size query (length out) yes)).0.few_rows in
       let fit = ap (unfit_bits (rows_in file)) bits_left ∙ fit_bits is_found (rows_in file) in
-      rw (none_answers (rows_in file) bits room few fit (rw lists_as_many fits)) (ap Elements lists_as_many)
+      rw (none_answers (rows_in file) bits room few fit (rw lists_as_many fits)) (ap Ok lists_as_many)

@@ -2,7 +2,7 @@
 use Rattle.std.specs.Prelude.{ℕ}
 use mathlib.Core.List.{List, [], ◌∷◌, ◌++◌, map, flatten}
 use Rattle.basis.specs.Lists.{below}
-use Rattle.answers.specs.declared.Refusal.{Refusal}
+use Rattle.refusals.specs.declared.Refusal.{Refusal}
 use Rattle.directory.specs.File.{columns_in}
 use Rattle.register.specs.Cells.{code_at}
 use Rattle.decimals.specs.Decimals.{decimal, space, line_feed}

@@ -1,7 +1,7 @@
 -- What is written of what was found. Assumes nothing.
 use Rattle.std.specs.Prelude.{ℕ, ◌≤◌, ◌≡◌, List, ◌++◌}
 use Rattle.limits.specs.Limits.{most_tests}
-use Rattle.register.specs.declared.Opened.TheVariants.{Register}
+use Rattle.std.specs.Prelude.{Ok}
 use Rattle.register.specs.Opening.{opened_of}
 use Rattle.bits.specs.Marked.{marked_below}
 use Rattle.lines.specs.Lines.{head_line}
@@ -12,7 +12,7 @@ use Rattle.listing.specs.Listing.{refused_or}
 
 -- what was found is of a file that opened, with few tests, each of a column of it
 pub record FoundThere (file : List ℕ) (found : Found) : Type 0 where
-  pub opened : opened_of file ≡ Register found.shape
+  pub opened : opened_of file ≡ Ok found.shape
   pub few : found.query.count ≤ most_tests
   pub columns_there : ColumnsBelow found.shape.columns found.query.tests found.query.count
 

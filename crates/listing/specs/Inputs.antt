@@ -1,7 +1,7 @@
 -- What the program prints of the inputs that it read: 18 for the file, 18 for the text, or the listing. Assumes nothing.
 use Rattle.std.specs.Prelude.{ℕ, ◌≡◌, List, Bool, true, false, not, ◌||◌, ltb, length}
 use Rattle.limits.specs.Limits.{most_file, most_text}
-use Rattle.answers.specs.declared.Refusal.{Refusal}
+use Rattle.refusals.specs.declared.Refusal.{Refusal}
 use Rattle.text.specs.declared.Asked.{Asked}
 use Rattle.text.specs.Reading.{Reads}
 use Rattle.pieces.specs.Pieces.{PieceWritten}

@@ -1,6 +1,6 @@
 -- The listing of a file and a query's text, and what the call that writes it promises. Assumes nothing.
 use Rattle.std.specs.Prelude.{ℕ, List, ◌++◌, cond, eqb}
-use Rattle.answers.specs.declared.Refusal.{Refusal}
+use Rattle.refusals.specs.declared.Refusal.{Refusal}
 use Rattle.directory.specs.File.{rows_in}
 use Rattle.query.specs.declared.Query.{Query}
 use Rattle.text.specs.declared.Asked.{Asked}

@@ -13,7 +13,7 @@ use lib.ListN.{length, drop}
 use Rattle.basis.specs.Refusals.{first_line}
 use Rattle.basis.proofs.Refusals.{Past, passes, ends}
 use Rattle.register.specs.declared.Shape.{Shape}
-use Rattle.register.specs.declared.Opened.TheVariants.{Register}
+use Rattle.std.specs.Prelude.{Ok}
 use Rattle.register.specs.Opening.{opened_of}
 use Rattle.register.proofs.Fit.{rows_as_opened, columns_as_opened}
 use Rattle.register.proofs.PassedOn.{own_lines_next}
@@ -22,7 +22,7 @@ use Rattle.lookup.specs.LookingUp.{first_missing, own_lines, look_up_lines}
 abbrev pub Passed : List ℕ → ℕ → List ℕ → ℕ → ℕ → Type 0
 Passed file column list room many = Past (look_up_lines file column list room) (drop many (own_lines file column list room))
 
-module _ (file : List ℕ) (column : ℕ) (list : List ℕ) (room : ℕ) (shape : Shape) (opened : opened_of file ≡ Register shape) where
+module _ (file : List ℕ) (column : ℕ) (list : List ℕ) (room : ℕ) (shape : Shape) (opened : opened_of file ≡ Ok shape) where
   pub own_lines_lem : Passed file column list room 0
   own_lines_lem = own_lines_next file (own_lines file column list room) shape opened
 

@@ -12,12 +12,12 @@ use Rattle.basis.proofs.Places.{first_is_none}
 use Rattle.register.specs.Cells.{code_at}
 use Rattle.table.specs.Table.{code_of, FitWidths, FitCodes}
 use Rattle.filing.specs.Layout.{file_of}
-use Rattle.answers.specs.declared.Answer.TheVariants.{Elements}
+use Rattle.std.specs.Prelude.{Ok}
 use Rattle.answers.proofs.Replies.{accepted_by}
 use Rattle.lookup.specs.LookingUp.{first_missing, codes_of, looked_up_of, left_in}
 use Rattle.lookup.specs.Steps.{AllBelow}
 use Rattle.lookup.proofs.LookingUp.{none_answers}
-use Rattle.roundtrip.proofs.Elements.{map_same}
+use Rattle.roundtrip.proofs.Ok.{map_same}
 use Rattle.roundtrip.proofs.WrittenOpens.{written_opens}
 use Rattle.roundtrip.proofs.WrittenIsFound.{written_is_found}
 
@@ -37,7 +37,7 @@ module _ (rows : ℕ) (widths codes : List ℕ) (fit_widths : FitWidths widths) 
       (λ i h. written_is_found rows widths codes fit_widths fit_codes (get_or list i 0) column (rows_there i h) column_there)
 
   pub looked_up_again : length list ≤ length into →
-      (looked_up_of (file_of rows widths codes) column list (length into) ≡ Elements (length list)) ×
+      (looked_up_of (file_of rows widths codes) column list (length into) ≡ Ok (length list)) ×
       (left_in (file_of rows widths codes) column list into ≡ laid into 0 (map (λ row. code_of widths codes row column) list))
   looked_up_again room =
       let opens = written_opens rows widths codes fit_widths fit_codes in

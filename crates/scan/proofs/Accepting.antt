@@ -17,7 +17,7 @@ use Rattle.basis.proofs.Members.{◌∈◌}
 use Rattle.basis.proofs.Refusals.{neither_answers}
 use Rattle.codes.specs.Width.{slices_of}
 use Rattle.codes.proofs.Width.{some_slice}
-use Rattle.register.specs.declared.Opened.TheVariants.{Register}
+use Rattle.std.specs.Prelude.{Ok}
 use Rattle.directory.specs.File.{rows_in, columns_in, width_in}
 use Rattle.register.specs.Opening.{opened_of}
 use Rattle.register.proofs.Fit.{width_as_opened}
@@ -50,7 +50,7 @@ module _ (file : List ℕ) (size : ℕ) (query : Query) (room : ℕ) (yes : Acce
   fitting : first_line (ask_lines file size query) ≡ none
   fitting = (neither_answers (ask_lines file size query) _ yes).0
 
-  pub opens : opened_of file ≡ Register (record { rows = rows_in file; columns = columns_in file })
+  pub opens : opened_of file ≡ Ok (record { rows = rows_in file; columns = columns_in file })
   opens = asked.opens file size query fitting
 
   pub right_size : 0 < size

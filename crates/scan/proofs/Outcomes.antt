@@ -15,8 +15,7 @@ use lib.ListN.{length}
 use Rattle.basis.specs.Refusals.{Line, refuse_for, first_line}
 use Rattle.basis.specs.Buffers.{laid}
 use Rattle.basis.proofs.Refusals.{first_of_earlier, Past, at_first, passes, stops, ends, passes_all}
-use Rattle.answers.specs.declared.Refusal.{Refusal}
-use Rattle.answers.specs.Answers.{refusal}
+use Rattle.refusals.specs.declared.Refusal.{Refusal}
 use Rattle.register.specs.declared.Shape.{Shape}
 use Rattle.register.specs.declared.Opened.TheVariants.{Register, Refused as NotFit}
 use Rattle.directory.specs.File.{rows_in}
@@ -30,7 +29,7 @@ use Rattle.scan.specs.Refusals.{scan_lines}
 use Rattle.scan.specs.Answers.{refused, accepted, found_bits, scanned_of, left_in}
 
 pub asked_first : (file : List ℕ) (size : ℕ) (query : Query) (room : ℕ) (unfit : Refusal) → asked_of file size query ≡ NotFit unfit →
-    (line : Line) × (first_line (scan_lines file size query room) ≡ some line) × (refusal line ≡ unfit)
+    (line : Line) × (first_line (scan_lines file size query room) ≡ some line) × (line.refusal ≡ unfit)
 asked_first file size query room unfit told =
     let by = asked_stops file size query unfit told in
     (by.0, first_of_earlier (ask_lines file size query) _ by.0 by.1, by.2)
@@ -40,7 +39,7 @@ module _ (file : List ℕ) (size : ℕ) (query : Query) (out : List ℕ) where
   Answered r left = (r ≡ scanned_of file size query (length out)) × (left ≡ left_in file size query out)
 
   pub refused_by : (line : Line) → first_line (scan_lines file size query (length out)) ≡ some line → {r : Scanned} →
-      r ≡ refused (refusal line) → Answered r out
+      r ≡ refused line.refusal → Answered r out
   unfolding scanned_of left_in
   refused_by line first e = rw (e, first) (refl, refl)
 

@@ -2,9 +2,8 @@
 use Rattle.std.specs.Prelude.{ℕ, List, [], map, length}
 use Rattle.basis.specs.Refusals.{first_line, answer_by}
 use Rattle.basis.specs.Buffers.{laid}
-use Rattle.answers.specs.declared.Refusal.{Refusal}
+use Rattle.refusals.specs.declared.Refusal.{Refusal}
 use Rattle.directory.specs.File.{rows_in}
-use Rattle.answers.specs.Answers.{refusal}
 use Rattle.query.specs.declared.Query.{Query}
 use Rattle.query.specs.Tests.{slots_of}
 use Rattle.schedule.specs.Schedule.{count, total, found, matches}
@@ -33,7 +32,7 @@ accepted file size query =
 -- the reply
 unfoldable pub scanned_of : List ℕ → ℕ → Query → ℕ → Scanned
 scanned_of file size query room =
-    answer_by (λ line. refused (refusal line)) (accepted file size query) (first_line (scan_lines file size query room))
+    answer_by (λ line. refused line.refusal) (accepted file size query) (first_line (scan_lines file size query room))
 
 -- the bits of the rows found
 unfoldable pub found_bits : List ℕ → Query → List ℕ

@@ -2,7 +2,7 @@
 use Rattle.std.specs.Prelude.{ℕ, suc, ◌*◌, ◌≤◌, ◌<◌, ◌≡◌, List}
 use Rattle.limits.specs.Limits.{most_tests, longest_line}
 use Rattle.register.specs.declared.Shape.{Shape}
-use Rattle.register.specs.declared.Opened.TheVariants.{Register}
+use Rattle.std.specs.Prelude.{Ok}
 use Rattle.register.specs.Opening.{opened_of}
 use Rattle.query.specs.declared.Test.{Test}
 use Rattle.query.specs.Tests.{test_at}
@@ -14,11 +14,11 @@ ColumnsBelow columns tests count = (t : ℕ) → t < count → (test_at tests t)
 -- at most one line is before, the file opened as the shape, the tests are few and of its columns
 pub record TestsAt (at : ℕ) (file : List ℕ) (shape : Shape) (tests : List Test) (count : ℕ) : Type 0 where
   pub early : at ≤ longest_line
-  pub opened : opened_of file ≡ Register shape
+  pub opened : opened_of file ≡ Ok shape
   pub few : count ≤ most_tests
   pub columns_there : ColumnsBelow shape.columns tests count
 
 -- no more is before than that line and one for each test, and the file opened as the shape
 pub record RowsAt (at : ℕ) (file : List ℕ) (shape : Shape) : Type 0 where
   pub early : at ≤ longest_line * suc most_tests
-  pub opened : opened_of file ≡ Register shape
+  pub opened : opened_of file ≡ Ok shape

@@ -3,10 +3,12 @@
 --   one_measuring    the reply, and what the output, the second that is lent, holds at exit
 use mathlib.Core.Path.{◌≡◌}
 use Rattle.basis.proofs.SingleReply.{single_reply}
-use Rattle.answers.specs.declared.Answer.{Answer}
+use Prim.Native.Nat.{ℕ}
+use Rattle.std.specs.Prelude.{Result}
+use Rattle.refusals.specs.declared.Refusal.{Refusal}
 use Rattle.widths.proofs.widths.Reads.{Post as Measures}
 
-pub one_measuring : (κs : _) (lent : _) (reply other : Answer) (exit exit' : _) →
+pub one_measuring : (κs : _) (lent : _) (reply other : Result ℕ Refusal) (exit exit' : _) →
     Measures κs lent reply exit → Measures κs lent other exit' → (reply ≡ other) × (exit.1.0.now ≡ exit'.1.0.now)
 one_measuring κs lent reply other exit exit' first second =
     (single_reply first.0 second.0, single_reply first.1.1 second.1.1)

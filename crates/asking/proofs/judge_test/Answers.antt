@@ -22,7 +22,7 @@ literal_is c = sym (c.too_large.ensures ∙ ap₂ too_large c.width_at.ensures c
 pub returns-then-shape-column : goal.returns-then-shape-column
 returns-then-shape-column c =
     let missing = rw (columns_as_opened _ _ c.requires) at c.if-shape-column.true in
-    c.unfit.ensures ∙ sym (judging.no_such_column _ _ c.args.test missing)
+    sym (judging.no_such_column _ _ c.args.test missing)
 
 pub too_large-requires : goal.too_large-requires
 too_large-requires c =
@@ -30,8 +30,7 @@ too_large-requires c =
 
 pub returns-then-too_large : goal.returns-then-too_large
 returns-then-too_large c =
-    c.unfit-then-too_large.ensures
-    ∙ sym (judging.too_large_a_literal _ _ c.args.test (there (goal.at.returns-then-too_large c).Else-shape-column) (literal_is (goal.at.returns-then-too_large c).After-too_large ∙ c.if-too_large.true))
+    sym (judging.too_large_a_literal _ _ c.args.test (there (goal.at.returns-then-too_large c).Else-shape-column) (literal_is (goal.at.returns-then-too_large c).After-too_large ∙ c.if-too_large.true))
 
 pub returns : goal.returns
 returns c =

@@ -7,7 +7,6 @@ use lib.ListN.{length}
 use borrow.Author.Tests.{lt-ltb}
 use Rattle.limits.specs.Limits.{most_rows}
 use Rattle.basis.proofs.Refusals.{at_first, stops}
-use Rattle.answers.specs.declared.Answer.TheVariants.{Elements}
 use Rattle.answers.proofs.Replies.{refused_by, accepted_by}
 use Rattle.bits.specs.Bits.{bytes_for}
 use Rattle.bits.specs.Marked.{unfit_bits}
@@ -41,16 +40,13 @@ pub returns-then-rows-gt-MOST_ROWS : goal.returns-then-rows-gt-MOST_ROWS
 unfolding list_lines
 returns-then-rows-gt-MOST_ROWS c =
     let place = goal.at.returns-then-rows-gt-MOST_ROWS c in
-    let told = refused_by _ _ _ _ (stops (past_0 place.Start) (lt-ltb _ _ c.if-rows-gt-MOST_ROWS.true)) c.refused.ensures in
-    record { answer = told.0; shown = told.1.0; left = told.1.1 }
+    refused_by _ _ _ _ (stops (past_0 place.Start) (lt-ltb _ _ c.if-rows-gt-MOST_ROWS.true))
 
 pub returns-then-unfit : goal.returns-then-unfit
 unfolding list_lines
 returns-then-unfit c =
     let place = goal.at.returns-then-unfit c in
-    let told = refused_by _ _ _ _ (stops (past_3 place.Else-rows-gt-MOST_ROWS) (sym c.unfit.ensures ∙ c.if-unfit.true))
-    c.refused-then-unfit.ensures in
-    record { answer = told.0; shown = told.1.0; left = told.1.1 }
+    refused_by _ _ _ _ (stops (past_3 place.Else-rows-gt-MOST_ROWS) (sym c.unfit.ensures ∙ c.if-unfit.true))
 
 pub count_rows-many-requires : goal.count_rows-many-requires
 count_rows-many-requires c = short c
@@ -60,9 +56,7 @@ unfolding list_lines
 returns-then-out-many c =
     let place = goal.at.returns-then-out-many c in
     let many = c.count_rows-many.ensures ∙ ap length (all_marked _ c.args.bits.now (fit place.Else-unfit)) in
-    let told = refused_by _ _ _ _ (stops (past_16 place.Else-unfit) (lt-ltb _ _ (rw many at c.if-out-many.true)))
-    (rw many at c.refused-then-out-many.ensures) in
-    record { answer = told.0; shown = told.1.0; left = told.1.1 }
+    rw many (refused_by _ _ _ _ (stops (past_16 place.Else-unfit) (lt-ltb _ _ (rw many at c.if-out-many.true))))
 
 pub write_rows-requires : goal.write_rows-requires
 write_rows-requires c =
@@ -74,7 +68,5 @@ returns c =
     let all = all_marked _ c.args.bits.now (fit place.Else-unfit) in
     let many = c.count_rows-many.ensures ∙ ap length all in
     let room = rw many at c.if-out-many.false in
-    let told = accepted_by _ _ _ _
-    (outcomes.none_answers _ c.args.bits.now _ (few place.Else-unfit) (fit place.Else-unfit) room) (ap Elements many)
-    (c.write_rows.ensures ∙ rw all) in
-    record { answer = told.0; shown = told.1.0; left = told.1.1 }
+    let none = outcomes.none_answers _ c.args.bits.now _ (few place.Else-unfit) (fit place.Else-unfit) room in
+    accepted_by _ _ _ _ none many (c.write_rows.ensures ∙ rw all)

@@ -2,7 +2,6 @@
 -- file is written. Assumes nothing.
 use Prim.Native.Nat.{ℕ, ◌≤◌}
 use native.Mathlib.Omega.{arith}
-use mathlib.Core.Path.{ap}
 use mathlib.Core.List.{List}
 use borrow.Author.Tests.{lt-ltb, eq-eqb}
 use lib.Dec.{eqb}
@@ -10,7 +9,6 @@ use lib.ListN.{length}
 use Rattle.limits.specs.Limits.{most_columns}
 use Rattle.basis.proofs.Truth.{left_holds, right_holds, differs}
 use Rattle.basis.proofs.Refusals.{at_first, stops}
-use Rattle.answers.specs.declared.Answer.TheVariants.{Elements}
 use Rattle.answers.proofs.Replies.{refused_by, accepted_by}
 use Rattle.directory.proofs.Entries.{few_bytes}
 use Rattle.table.specs.Table.{FitWidths, FitCodes, first_unfit_width, first_too_large}
@@ -68,23 +66,20 @@ unfolding write_lines
 returns-then-rows-gt-MOST_ROWS c =
     let a = c.args in
     let past = past_0 a.rows a.widths.now a.codes.now (length a.out.now) in
-    let told = refused_by _ _ _ _ (stops past (lt-ltb _ _ c.if-rows-gt-MOST_ROWS.true)) c.refused.ensures in
-    record { answer = told.0; shown = told.1.0; left = told.1.1 }
+    refused_by _ _ _ _ (stops past (lt-ltb _ _ c.if-rows-gt-MOST_ROWS.true))
 
 pub returns-then-columns-eq0 : goal.returns-then-columns-eq0
 unfolding write_lines
 returns-then-columns-eq0 c =
     let past = past_3 (goal.at.returns-then-columns-eq0 c).Else-rows-gt-MOST_ROWS in
-    let told = refused_by _ _ _ _ (stops past (left_holds _ _ (eq-eqb _ _ c.if-columns-eq0.true))) c.refused-then-columns-eq0.ensures in
-    record { answer = told.0; shown = told.1.0; left = told.1.1 }
+    refused_by _ _ _ _ (stops past (left_holds _ _ (eq-eqb _ _ c.if-columns-eq0.true)))
 
 pub returns-then-columns-gt-MOST_COLUMNS : goal.returns-then-columns-gt-MOST_COLUMNS
 unfolding write_lines
 returns-then-columns-gt-MOST_COLUMNS c =
     let many = right_holds (eqb (length c.args.widths.now) 0) _ (lt-ltb most_columns _ c.if-columns-gt-MOST_COLUMNS.true) in
     let past = past_3 (goal.at.returns-then-columns-gt-MOST_COLUMNS c).Else-rows-gt-MOST_ROWS in
-    let told = refused_by _ _ _ _ (stops past many) c.refused-then-columns-gt-MOST_COLUMNS.ensures in
-    record { answer = told.0; shown = told.1.0; left = told.1.1 }
+    refused_by _ _ _ _ (stops past many)
 
 pub returns-then-unfit-columns : goal.returns-then-unfit-columns
 unfolding write_lines
@@ -92,8 +87,7 @@ returns-then-unfit-columns c =
     let first = c.first_unfit-unfit.ensures in
     let unfit = lt-ltb _ _ (rw first at c.if-unfit-columns.true) in
     let past = past_4 (goal.at.returns-then-unfit-columns c).Else-columns-gt-MOST_COLUMNS in
-    let told = refused_by _ _ _ _ (stops past unfit) (rw first at c.refused-then-unfit-columns.ensures) in
-    record { answer = told.0; shown = told.1.0; left = told.1.1 }
+    rw first (refused_by _ _ _ _ (stops past unfit))
 
 pub overflow_mul-rows : goal.overflow_mul-rows
 overflow_mul-rows c =
@@ -105,8 +99,7 @@ pub returns-then-codes-rows : goal.returns-then-codes-rows
 unfolding write_lines
 returns-then-codes-rows c =
     let past = past_6 (goal.at.returns-then-codes-rows c).Else-unfit-columns in
-    let told = refused_by _ _ _ _ (stops past (differs _ _ c.if-codes-rows.true)) c.refused-then-codes-rows.ensures in
-    record { answer = told.0; shown = told.1.0; left = told.1.1 }
+    refused_by _ _ _ _ (stops past (differs _ _ c.if-codes-rows.true))
 
 pub first_too_large-large-requires : goal.first_too_large-large-requires
 first_too_large-large-requires c =
@@ -118,8 +111,7 @@ returns-then-large-codes c =
     let first = c.first_too_large-large.ensures in
     let large = lt-ltb _ _ (rw first at c.if-large-codes.true) in
     let past = past_9 (goal.at.returns-then-large-codes c).Else-codes-rows in
-    let told = refused_by _ _ _ _ (stops past large) (rw first at c.refused-then-large-codes.ensures) in
-    record { answer = told.0; shown = told.1.0; left = told.1.1 }
+    rw first (refused_by _ _ _ _ (stops past large))
 
 pub file_length-need-requires : goal.file_length-need-requires
 file_length-need-requires c =
@@ -132,8 +124,7 @@ returns-then-out-need c =
     let end = c.file_length-need.ensures in
     let short = lt-ltb _ _ (rw end at c.if-out-need.true) in
     let past = past_8 (goal.at.returns-then-out-need c).Else-large-codes in
-    let told = refused_by _ _ _ _ (stops past short) (rw end at c.refused-then-out-need.ensures) in
-    record { answer = told.0; shown = told.1.0; left = told.1.1 }
+    rw end (refused_by _ _ _ _ (stops past short))
 
 pub write_file-requires : goal.write_file-requires
 write_file-requires c =
@@ -147,6 +138,4 @@ pub returns : goal.returns
 returns c =
     let end = c.file_length-need.ensures in
     let past = past_8 (goal.at.returns c).Else-large-codes in
-    let told = accepted_by _ _ _ _ (writing.none_answers _ _ _ _ past (omega (arith, end, c.if-out-need.false)))
-    (ap Elements end) c.write_file.ensures in
-    record { answer = told.0; shown = told.1.0; left = told.1.1 }
+    accepted_by _ _ _ _ (writing.none_answers _ _ _ _ past (omega (arith, end, c.if-out-need.false))) end c.write_file.ensures
