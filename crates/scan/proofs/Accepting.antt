@@ -17,9 +17,11 @@ use Rattle.basis.proofs.Members.{◌∈◌}
 use Rattle.basis.proofs.Refusals.{neither_answers}
 use Rattle.codes.specs.Width.{slices_of}
 use Rattle.codes.proofs.Width.{some_slice}
-use Rattle.std.specs.Prelude.{Ok}
+use Rattle.std.specs.Prelude.{Result, Ok}
+use Rattle.refusals.specs.declared.Refusal.{Refusal}
+use Rattle.answers.proofs.Replies.{answer_accepted}
 use Rattle.directory.specs.File.{rows_in, columns_in, width_in}
-use Rattle.register.specs.Opening.{opened_of}
+use Rattle.register.specs.Opening.{shape_in, opened_of}
 use Rattle.register.proofs.Fit.{width_as_opened}
 use Rattle.query.specs.declared.Test.{Test}
 use Rattle.query.specs.declared.Query.{Query}
@@ -35,22 +37,22 @@ use Rattle.asking.proofs.Sizes.{in_eighths}
 use Rattle.asking.proofs.Judging.{FitTest}
 use Rattle.asking.proofs.Asked as asked
 use Rattle.scan.specs.Refusals.{scan_lines}
-use Rattle.scan.specs.Answers.{accepted, scanned_of}
+use Rattle.scan.specs.Answers.{accepted, scanned_of, numbers_in}
 
 -- no line of the table answers
 abbrev pub Accepted : List ℕ → ℕ → Query → ℕ → Type 0
 Accepted file size query room = first_line (scan_lines file size query room) ≡ none
 
 module _ (file : List ℕ) (size : ℕ) (query : Query) (room : ℕ) (yes : Accepted file size query room) where
-  pub reply : scanned_of file size query room ≡ accepted file size query
+  pub reply : scanned_of file size query room ≡ Ok (accepted file size query)
   unfolding scanned_of
-  reply = rw yes
+  reply = answer_accepted _ _ yes
 
   -- no line of the query held to the file answers
   fitting : first_line (ask_lines file size query) ≡ none
   fitting = (neither_answers (ask_lines file size query) _ yes).0
 
-  pub opens : opened_of file ≡ Ok (record { rows = rows_in file; columns = columns_in file })
+  pub opens : opened_of file ≡ Ok (shape_in file)
   opens = asked.opens file size query fitting
 
   pub right_size : 0 < size
@@ -63,14 +65,14 @@ module _ (file : List ℕ) (size : ℕ) (query : Query) (room : ℕ) (yes : Acce
   sliced test m = some_slice (width_in file test.column) (width_as_opened file _ opens test.column (fits test m).column).0
 
   pub counted : (t : ℕ) → t < length (tests_of query) →
-      get_or (scanned_of file size query room).counts t 0 ≡
+      get_or (numbers_in (scanned_of file size query room)).counts t 0 ≡
       count comparing (bytes_in file) (tests_in file query) (widened file (test_at (tests_of query) t)) (segments_in file size)
   unfolding accepted
   counted t h =
       let numbers = map (λ test. count comparing (bytes_in file) (tests_in file query) test (segments_in file size)) (tests_in file query) in
       let many : length (tests_in file query) ≡ length (tests_of query) = length-map (tests_of query) (widened file) in
       let long : length numbers ≡ length (tests_of query) = length-map (tests_in file query) _ ∙ many in
-      ap (λ (r : Scanned). get_or r.counts t 0) reply
+      ap (λ (r : Result Scanned Refusal). get_or (numbers_in r).counts t 0) reply
       ∙ filled_at 0 most_tests numbers t (omega arith) (omega (arith, asked.few_slots file size query fitting))
       ∙ mapped_in_place _ (tests_in file query) t (widened file empty_slot) 0 (omega arith)
       ∙ ap (λ (test : ColumnTest). count comparing (bytes_in file) (tests_in file query) test (segments_in file size))

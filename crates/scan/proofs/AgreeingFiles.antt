@@ -19,6 +19,7 @@ use Rattle.schedule.specs.Comparisons.{comparing}
 use Rattle.schedule.proofs.Six.{comparing_lawful}
 use Rattle.schedule.proofs.Agreement.{Agree, agreement_count, agreement_total, agreement_rows, agreement_matches}
 use Rattle.asking.specs.AtFile.{widened, tests_in, bytes_in, segments_in}
+use Rattle.std.specs.Prelude.{Ok}
 use Rattle.scan.specs.Answers.{accepted, found_bits, scanned_of, left_in}
 use Rattle.bits.proofs.Packed.{bits_same}
 use Rattle.scan.proofs.LeftBits.{left_is}
@@ -71,7 +72,7 @@ module _ (file other : List ℕ) (size : ℕ) (query : Query) (room : ℕ) (yes 
       ))
 
   pub same_reply : (room' : ℕ) → Accepted other size query room' → scanned_of file size query room ≡ scanned_of other size query room'
-  same_reply room' yes' = reply file size query room yes ∙ same_accepted ∙ sym (reply other size query room' yes')
+  same_reply room' yes' = reply file size query room yes ∙ ap Ok same_accepted ∙ sym (reply other size query room' yes')
 
   pub same_result : (out : List ℕ) → Accepted file size query (length out) → Accepted other size query (length out) →
       left_in file size query out ≡ left_in other size query out

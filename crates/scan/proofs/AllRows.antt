@@ -84,7 +84,7 @@ module _ (file : List ℕ) (tests : List Test) (many size rows : ℕ) (same_rows
       ∙ ap (widened file) (get_or-take many tests t empty_slot h))
 
   pub all_scanned : (sums : ℕ) → sums ≡ sum (λ t. get_or counts t 0) (below most_tests) → {r : Scanned} →
-      r ≡ record { refusal = record { number = 0; place = 0; need = 0 }; matches = matched; counts = counts; total = sums } →
+      r ≡ record { matches = matched; counts = counts; total = sums } →
       r ≡ accepted file size (asked tests many)
   unfolding accepted matches total
   all_scanned sums total-is e =

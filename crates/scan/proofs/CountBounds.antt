@@ -16,7 +16,7 @@ use Rattle.schedule.specs.Comparisons.{ColumnTest, comparing}
 use Rattle.schedule.proofs.Bounds as schedule
 use Rattle.schedule.proofs.Six.{comparing_lawful}
 use Rattle.asking.specs.AtFile.{widened, tests_in, bytes_in}
-use Rattle.scan.specs.Answers.{scanned_of}
+use Rattle.scan.specs.Answers.{scanned_of, numbers_in}
 use Rattle.scan.proofs.Accepting.{Accepted, right_size, sliced, counted}
 
 module _ (file : List ℕ) (size : ℕ) (query : Query) (room : ℕ) (yes : Accepted file size query room) (t : ℕ)
@@ -27,7 +27,7 @@ module _ (file : List ℕ) (size : ℕ) (query : Query) (room : ℕ) (yes : Acce
       let from = Memᴰ.of_map (widened file) (tests_of query) m in
       rw (← from.2) (sliced file size query room yes from.0 from.1)
 
-  pub count_at_least_rows : rows_in file ≤ get_or (scanned_of file size query room).counts t 0
+  pub count_at_least_rows : rows_in file ≤ get_or (numbers_in (scanned_of file size query room)).counts t 0
   count_at_least_rows =
       rw (counted file size query room yes t h)
       (schedule.count_at_least_rows comparing (bytes_in file) (tests_in file query) size (rows_in file) (right_size file size query room yes)
@@ -35,7 +35,7 @@ module _ (file : List ℕ) (size : ℕ) (query : Query) (room : ℕ) (yes : Acce
       (Memᴰ.map (widened file) (at_is_member (tests_of query) t empty_slot h)))
 
   pub count_at_most_rows_times_slices :
-      get_or (scanned_of file size query room).counts t 0 ≤ rows_in file * slices_of (width_in file (test_at (tests_of query) t).column)
+      get_or (numbers_in (scanned_of file size query room)).counts t 0 ≤ rows_in file * slices_of (width_in file (test_at (tests_of query) t).column)
   count_at_most_rows_times_slices =
       rw (counted file size query room yes t h)
       (schedule.count_at_most_rows_times_slices comparing (bytes_in file) (tests_in file query) size (rows_in file)

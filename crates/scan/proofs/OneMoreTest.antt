@@ -23,7 +23,7 @@ use Rattle.schedule.proofs.Adding.{adds_no_more}
 use Rattle.schedule.proofs.MoreTests.{more_tests_find_no_more, one_more_test}
 use Rattle.asking.specs.AtFile.{widened, tests_in, bytes_in, segments_in}
 use Rattle.bits.specs.Bits.{bit_in}
-use Rattle.scan.specs.Answers.{accepted, scanned_of, left_in}
+use Rattle.scan.specs.Answers.{accepted, scanned_of, left_in, numbers_in}
 use Rattle.scan.proofs.LeftBits.{bit_left}
 use Rattle.scan.proofs.Accepting.{Accepted, reply, counted}
 
@@ -39,19 +39,19 @@ module _ (file : List ℕ) (size : ℕ) (query longer : Query) (further : Test) 
 
   module _ (room room' : ℕ) (yes : Accepted file size query room) (yes' : Accepted file size longer room') where
     pub no_count_rises : (t : ℕ) → t < length (tests_of query) →
-        get_or (scanned_of file size longer room').counts t 0 ≤ get_or (scanned_of file size query room).counts t 0
+        get_or (numbers_in (scanned_of file size longer room')).counts t 0 ≤ get_or (numbers_in (scanned_of file size query room)).counts t 0
     no_count_rises t h =
         let test = widened file (test_at (tests_of query) t) in
         let inside : t < length (tests_of longer) = rw (more, length-append (tests_of query) (further ∷ [])) (omega arith) in
         let same : test_at (tests_of longer) t ≡ test_at (tests_of query) t =
         ap (λ (tests : List Test). test_at tests t) more ∙ get_or-append (tests_of query) (further ∷ []) empty_slot t h in
-        let now : get_or (scanned_of file size longer room').counts t 0 ≡
+        let now : get_or (numbers_in (scanned_of file size longer room')).counts t 0 ≡
         count comparing (bytes_in file) (tests_in file query ++ (widened file further ∷ [])) test (segments_in file size) =
         counted file size longer room' yes' t inside ∙ rw (same, widened_too) in
         rw (now, counted file size query room yes t h)
         (one_more_test comparing (bytes_in file) (tests_in file query) (widened file further) test (segments_in file size))
 
-    pub no_more_matches : (scanned_of file size longer room').matches ≤ (scanned_of file size query room).matches
+    pub no_more_matches : (numbers_in (scanned_of file size longer room')).matches ≤ (numbers_in (scanned_of file size query room)).matches
     unfolding accepted matches
     no_more_matches =
         rw (reply file size longer room' yes', reply file size query room yes)

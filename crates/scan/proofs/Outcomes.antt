@@ -12,12 +12,13 @@ use mathlib.Core.Option.{none, some}
 use borrow.Author.Tests.{lt-ltb, le-ltb}
 use lib.Dec.{ltb}
 use lib.ListN.{length}
-use Rattle.basis.specs.Refusals.{Line, refuse_for, first_line}
+use Rattle.basis.specs.Refusals.{Line, refuse, first_line, answer_of}
 use Rattle.basis.specs.Buffers.{laid}
 use Rattle.basis.proofs.Refusals.{first_of_earlier, Past, at_first, passes, stops, ends, passes_all}
 use Rattle.refusals.specs.declared.Refusal.{Refusal}
 use Rattle.register.specs.declared.Shape.{Shape}
-use Rattle.register.specs.declared.Opened.TheVariants.{Register, Refused as NotFit}
+use Rattle.std.specs.Prelude.{Result, Ok, Err}
+use Rattle.refusals.specs.declared.Refusal.TheVariants.{OutputTooShort}
 use Rattle.directory.specs.File.{rows_in}
 use Rattle.register.proofs.Fit.{rows_as_opened}
 use Rattle.query.specs.declared.Query.{Query}
@@ -26,48 +27,49 @@ use Rattle.asking.proofs.Asked.{asked_passes, asked_stops, opened_as_asked}
 use Rattle.scan.specs.declared.Scanned.{Scanned}
 use Rattle.bits.specs.Bits.{bytes_for}
 use Rattle.scan.specs.Refusals.{scan_lines}
-use Rattle.scan.specs.Answers.{refused, accepted, found_bits, scanned_of, left_in}
+use Rattle.scan.specs.Answers.{accepted, found_bits, scanned_of, left_in}
 
-pub asked_first : (file : List ℕ) (size : ℕ) (query : Query) (room : ℕ) (unfit : Refusal) → asked_of file size query ≡ NotFit unfit →
+pub asked_first : (file : List ℕ) (size : ℕ) (query : Query) (room : ℕ) (unfit : Refusal) → asked_of file size query ≡ Err unfit →
     (line : Line) × (first_line (scan_lines file size query room) ≡ some line) × (line.refusal ≡ unfit)
 asked_first file size query room unfit told =
     let by = asked_stops file size query unfit told in
     (by.0, first_of_earlier (ask_lines file size query) _ by.0 by.1, by.2)
 
 module _ (file : List ℕ) (size : ℕ) (query : Query) (out : List ℕ) where
-  abbrev pub Answered : Scanned → List ℕ → Type 0
-  Answered r left = (r ≡ scanned_of file size query (length out)) × (left ≡ left_in file size query out)
+  abbrev pub Answered : Result Scanned Refusal → List ℕ → Type 0
+  Answered reply after = record {
+    answer : reply ≡ scanned_of file size query (length out);
+    left : after ≡ left_in file size query out
+  }
 
-  pub refused_by : (line : Line) → first_line (scan_lines file size query (length out)) ≡ some line → {r : Scanned} →
-      r ≡ refused line.refusal → Answered r out
-  unfolding scanned_of left_in
-  refused_by line first e = rw (e, first) (refl, refl)
+  pub refused_by : {line : Line} → first_line (scan_lines file size query (length out)) ≡ some line → Answered (Err line.refusal) out
+  unfolding answer_of scanned_of left_in
+  refused_by first = rw first (record { answer = refl; left = refl })
 
-  pub accepted_by : first_line (scan_lines file size query (length out)) ≡ none → {r : Scanned} {left : List ℕ} →
-      r ≡ accepted file size query → left ≡ laid out 0 (found_bits file query) → Answered r left
-  unfolding scanned_of left_in
-  accepted_by first e f = rw (e, f, first) (refl, refl)
+  pub accepted_by : first_line (scan_lines file size query (length out)) ≡ none → {scanned : Scanned} {after : List ℕ} →
+      scanned ≡ accepted file size query → after ≡ laid out 0 (found_bits file query) → Answered (Ok scanned) after
+  unfolding answer_of scanned_of left_in
+  accepted_by first same written = rw (same, written, first) (record { answer = refl; left = refl })
 
-  pub unasked : (unfit : Refusal) → asked_of file size query ≡ NotFit unfit → {r : Scanned} → r ≡ refused unfit → Answered r out
-  unasked unfit told e =
+  pub unasked : (unfit : Refusal) → asked_of file size query ≡ Err unfit → Answered (Err unfit) out
+  unasked unfit told =
       let by = asked_first file size query (length out) unfit told in
-      refused_by by.0 by.1 (e ∙ ap refused (sym by.2))
+      rw (← by.2) (refused_by by.1)
 
-  module _ (shape : Shape) (told : asked_of file size query ≡ Register shape) where
+  module _ (shape : Shape) (told : asked_of file size query ≡ Ok shape) where
     -- past the query's lines, the room is left
     at_room : Past (scan_lines file size query (length out))
-        (refuse_for 10 (ltb (length out) (bytes_for (rows_in file))) (bytes_for (rows_in file)) ∷ [])
+        (refuse (OutputTooShort (bytes_for (rows_in file))) (ltb (length out) (bytes_for (rows_in file))) ∷ [])
     at_room = passes_all (ask_lines file size query) _ (at_first _) (asked_passes file size query shape told)
 
     -- the rows are the file's
     same_rows : shape.rows ≡ rows_in file
     same_rows = rows_as_opened file shape (opened_as_asked file size query shape told)
 
-    pub too_short : length out < bytes_for shape.rows → {r : Scanned} →
-        r ≡ refused (record { number = 10; place = 0; need = bytes_for shape.rows }) → Answered r out
-    too_short h e =
-        refused_by _ (stops at_room (lt-ltb (length out) (bytes_for (rows_in file)) (rw same_rows at h))) (rw same_rows at e)
+    pub too_short : length out < bytes_for shape.rows → Answered (Err (OutputTooShort (bytes_for shape.rows))) out
+    too_short h =
+        rw same_rows (refused_by (stops at_room (lt-ltb (length out) (bytes_for (rows_in file)) (rw same_rows at h))))
 
-    pub scanned : bytes_for shape.rows ≤ length out → {r : Scanned} {left : List ℕ} → r ≡ accepted file size query →
-        left ≡ laid out 0 (found_bits file query) → Answered r left
+    pub scanned : bytes_for shape.rows ≤ length out → {scanned : Scanned} {after : List ℕ} → scanned ≡ accepted file size query →
+        after ≡ laid out 0 (found_bits file query) → Answered (Ok scanned) after
     scanned h = accepted_by (ends (passes at_room (le-ltb (length out) (bytes_for (rows_in file)) (rw same_rows at h))))

@@ -22,7 +22,9 @@ use Rattle.schedule.specs.Comparisons.{comparing}
 use Rattle.schedule.proofs.Reordered.{reordered_count, reordered_found, reordered_total, reordered_matches}
 use Rattle.scan.specs.declared.Scanned.{Scanned}
 use Rattle.asking.specs.AtFile.{widened, tests_in, bytes_in, segments_in}
-use Rattle.scan.specs.Answers.{accepted, found_bits, scanned_of, left_in}
+use Rattle.std.specs.Prelude.{Result}
+use Rattle.refusals.specs.declared.Refusal.{Refusal}
+use Rattle.scan.specs.Answers.{accepted, found_bits, scanned_of, left_in, numbers_in}
 use Rattle.bits.proofs.Packed.{bits_same}
 use Rattle.scan.proofs.LeftBits.{left_is}
 use Rattle.scan.proofs.Accepting.{Accepted, reply, counted}
@@ -45,23 +47,23 @@ module _ (file : List ℕ) (size : ℕ) (query other : Query) (same_tests : Reor
       (λ row h. reordered_found comparing (bytes_in file) widened_too row)
 
   module _ (room room' : ℕ) (yes : Accepted file size query room) (yes' : Accepted file size other room') where
-    pub same_matches : (scanned_of file size query room).matches ≡ (scanned_of file size other room').matches
+    pub same_matches : (numbers_in (scanned_of file size query room)).matches ≡ (numbers_in (scanned_of file size other room')).matches
     unfolding accepted
     same_matches =
-        ap (λ (r : Scanned). r.matches) (reply file size query room yes)
+        ap (λ (r : Result Scanned Refusal). (numbers_in r).matches) (reply file size query room yes)
         ∙ reordered_matches comparing (bytes_in file) widened_too (rows_in file)
-        ∙ ap (λ (r : Scanned). r.matches) (sym (reply file size other room' yes'))
+        ∙ ap (λ (r : Result Scanned Refusal). (numbers_in r).matches) (sym (reply file size other room' yes'))
 
-    pub same_total : (scanned_of file size query room).total ≡ (scanned_of file size other room').total
+    pub same_total : (numbers_in (scanned_of file size query room)).total ≡ (numbers_in (scanned_of file size other room')).total
     unfolding accepted
     same_total =
-        ap (λ (r : Scanned). r.total) (reply file size query room yes)
+        ap (λ (r : Result Scanned Refusal). (numbers_in r).total) (reply file size query room yes)
         ∙ reordered_total comparing (bytes_in file) widened_too (segments_in file size)
-        ∙ ap (λ (r : Scanned). r.total) (sym (reply file size other room' yes'))
+        ∙ ap (λ (r : Result Scanned Refusal). (numbers_in r).total) (sym (reply file size other room' yes'))
 
     pub same_counts : (t u : ℕ) → t < length (tests_of query) → u < length (tests_of other) →
         test_at (tests_of query) t ≡ test_at (tests_of other) u →
-        get_or (scanned_of file size query room).counts t 0 ≡ get_or (scanned_of file size other room').counts u 0
+        get_or (numbers_in (scanned_of file size query room)).counts t 0 ≡ get_or (numbers_in (scanned_of file size other room')).counts u 0
     same_counts t u h k same =
         counted file size query room yes t h
         ∙ reordered_count comparing (bytes_in file) widened_too (widened file (test_at (tests_of query) t)) (segments_in file size)

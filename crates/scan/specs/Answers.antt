@@ -1,6 +1,6 @@
 -- The reply to a scan, and what it leaves in the result. Assumes nothing.
-use Rattle.std.specs.Prelude.{ℕ, List, [], map, length}
-use Rattle.basis.specs.Refusals.{first_line, answer_by}
+use Rattle.std.specs.Prelude.{ℕ, List, [], map, length, Result, Ok, Err}
+use Rattle.basis.specs.Refusals.{first_line, answer_by, answer_of}
 use Rattle.basis.specs.Buffers.{laid}
 use Rattle.refusals.specs.declared.Refusal.{Refusal}
 use Rattle.directory.specs.File.{rows_in}
@@ -13,15 +13,10 @@ use Rattle.asking.specs.AtFile.{tests_in, bytes_in, segments_in}
 use Rattle.bits.specs.Bits.{bits_of}
 use Rattle.scan.specs.Refusals.{scan_lines}
 
--- a refused scan answers 0 in every field
-abbrev pub refused : Refusal → Scanned
-refused refusal = record { refusal = refusal; matches = 0; counts = slots_of 0 []; total = 0 }
-
 -- an accepted scan answers the schedule's numbers
 unfoldable pub accepted : List ℕ → ℕ → Query → Scanned
 accepted file size query =
     record {
-      refusal = record { number = 0; place = 0; need = 0 };
       matches = matches comparing (bytes_in file) (tests_in file query) (rows_in file);
       counts =
           slots_of 0
@@ -30,9 +25,13 @@ accepted file size query =
     }
 
 -- the reply
-unfoldable pub scanned_of : List ℕ → ℕ → Query → ℕ → Scanned
-scanned_of file size query room =
-    answer_by (λ line. refused line.refusal) (accepted file size query) (first_line (scan_lines file size query room))
+unfoldable pub scanned_of : List ℕ → ℕ → Query → ℕ → Result Scanned Refusal
+scanned_of file size query room = answer_of (scan_lines file size query room) (accepted file size query)
+
+-- the numbers of a reply, each 0 where the scan is refused
+abbrev pub numbers_in : Result Scanned Refusal → Scanned
+numbers_in (Ok scanned) = scanned
+numbers_in (Err refusal) = record { matches = 0; counts = slots_of 0 []; total = 0 }
 
 -- the bits of the rows found
 unfoldable pub found_bits : List ℕ → Query → List ℕ

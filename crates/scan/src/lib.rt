@@ -8,21 +8,19 @@ ghost use Rattle.std.specs.Prelude.{◌≡◌, ◌+◌, length, get_or};
 ghost use Rattle.limits.specs.Limits.{most_tests};
 ghost use Rattle.basis.specs.Lists.{sum, below};
 ghost use Rattle.basis.specs.Buffers.{laid};
-ghost use Rattle.scan.specs.Answers.{refused, accepted, found_bits, scanned_of, left_in};
+ghost use Rattle.scan.specs.Answers.{accepted, found_bits, scanned_of, left_in};
 ghost use Rattle.basis.specs.Sweeps.{Swept};
 ghost use Rattle.asking.specs.Judged.{asked};
 ghost use Rattle.scan.specs.Steps.{ScanFit, Small, CountsFit};
 
-use answers::Refusal;
 use limits::MOST_TESTS;
 use query::{Query, Test};
-use register::{Opened, Shape};
+use refusals::Refusal;
+use register::Shape;
 
-// The reply to a scan: how many rows match, a count of bytes for each test (0 after the last) and
-// their total; or the refusal, and then 0 in all of these.
+// What a scan found: how many rows match, a count of bytes for each test (0 after the last) and their total.
 #[derive(Clone, Copy)]
 pub struct Scanned {
-    pub refusal: Refusal,
     pub matches: usize,
     pub counts: [usize; MOST_TESTS],
     pub total: usize,
@@ -30,35 +28,16 @@ pub struct Scanned {
 
 // Finds the rows of a file that meet every test, and sets their bits at the front of the result.
 // Refused, it changes nothing.
-pub fn scan(file: &[u8], size: usize, query: Query, res: &mut [u8]) -> Scanned
+pub fn scan(file: &[u8], size: usize, query: Query, res: &mut [u8]) -> Result<Scanned, Refusal>
     ensures answer { result ≡ scanned_of file.now size query (length res.old) }
     ensures left { res.new ≡ left_in file.now size query res.old }
 {
-    let asked = asking::ask(file, size, query);
-    let Opened::Register(shape) = asked else {
-        return refused(register::refusal_of(asked));
-    };
+    let shape = asking::ask(file, size, query)?;
     let need = bits::bytes_for(shape.rows);
     if res.len() < need {
-        return refused(Refusal {
-            number: 10,
-            place: 0,
-            need,
-        });
+        return Err(Refusal::OutputTooShort(need));
     }
-    let tests = query.tests;
-    scan_rows(file, shape, size, tests, query.count, res)
-}
-
-fn refused(refusal: Refusal) -> Scanned
-    ensures { result ≡ refused refusal }
-{
-    Scanned {
-        refusal,
-        matches: 0,
-        counts: [0; MOST_TESTS],
-        total: 0,
-    }
+    Ok(scan_rows(file, shape, size, query.tests, query.count, res))
 }
 
 // Scans all segments of a file to which a query was held, one after the other.
@@ -96,11 +75,6 @@ pub fn scan_rows(
     }
     let total = sum_of(&counts);
     Scanned {
-        refusal: Refusal {
-            number: 0,
-            place: 0,
-            need: 0,
-        },
         matches,
         counts,
         total,
