@@ -19,8 +19,7 @@ use lib.ListN.{length, get_or, drop, length-append, drop_of_length-le, get_or-ap
 use Rattle.basis.proofs.Runs.{within_or_past}
 use Rattle.decimals.specs.declared.After.{After}
 use Rattle.decimals.specs.declared.After.TheVariants.{Space, LineFeed}
-use Rattle.decimals.specs.declared.Number.{Number}
-use Rattle.decimals.specs.declared.Number.TheVariants.{NoNumber}
+use Rattle.std.specs.Prelude.{Option, None}
 use Rattle.decimals.specs.Decimals.{digit, decimal}
 use Rattle.decimals.specs.Reading.{after_byte, ended_by, NumberAt}
 use Rattle.decimals.proofs.Words.{AllOf, joined_word, byte_of_word}
@@ -58,7 +57,7 @@ pub record Begun (limit : ℕ) (text : List ℕ) (from number at : ℕ) : Type 0
 module _ {limit : ℕ} (bound : limit ≤ room) where
   -- no number begins with digits that make too much
   too_much : (text : List ℕ) (at : ℕ) (after : After) (word rest : List ℕ) → AllOf IsDigit word → limit ≤ value word →
-      drop at text ≡ word ++ rest → NumberAt limit text at after NoNumber
+      drop at text ≡ word ++ rest → NumberAt limit text at after None
   too_much text at after word rest digits large is number left small e =
       omega (arith, (begun_decimal word number digits (omega arith) (after_no_digit after) (sym is ∙ e)).0)
 
@@ -76,7 +75,7 @@ module _ {limit : ℕ} (bound : limit ≤ room) where
       spells = stands.1 ∙ ap (λ (word : List ℕ). word ++ drop (at + 1) text) (sym (decimal_of_digit d small));
     }
 
-    pub first_too_large_lem : (after : After) → limit ≤ d → NumberAt limit text at after NoNumber
+    pub first_too_large_lem : (after : After) → limit ≤ d → NumberAt limit text at after None
     unfolding value_from
     first_too_large_lem after large =
         too_much text at after (digit d ∷ []) (drop (at + 1) text) (omega arith, tt) (omega arith) stands.1
@@ -100,7 +99,7 @@ module _ {limit : ℕ} (bound : limit ≤ room) where
             (sym (decimal_one_more number d so_far.some small (omega arith)));
       }
 
-      pub too_large_lem : (after : After) → limit ≤ number * 10 + d → NumberAt limit text from after NoNumber
+      pub too_large_lem : (after : After) → limit ≤ number * 10 + d → NumberAt limit text from after None
       too_large_lem after large =
           let fits : number < room = omega (arith, so_far.small) in
           too_much text from after (decimal number ++ (digit d ∷ [])) (drop (at + 1) text)
@@ -108,7 +107,7 @@ module _ {limit : ℕ} (bound : limit ≤ room) where
           (omega (arith, value_one_more number d fits)) one_more
 
   module _ {text : List ℕ} {from number at : ℕ} (so_far : Begun limit text from number at) (after : After) where
-    pub number_ends : at < length text → (IsDigit (get_or text at 0) → ⊥) → {read : Number} →
+    pub number_ends : at < length text → (IsDigit (get_or text at 0) → ⊥) → {read : Option (ℕ × ℕ)} →
         read ≡ ended_by after (get_or text at 0) number (at + 1) → NumberAt limit text from after read
     number_ends inside none said =
         by_byte (NumberAt limit text from after) (get_or text at 0) (after_byte after) said
@@ -124,14 +123,14 @@ module _ {limit : ℕ} (bound : limit ≤ room) where
         (ap (λ (left : List ℕ). decimal number ++ left) (sym behind) ∙ sym so_far.spells ∙ e) in
         differs word.1)
 
-    pub text_ends : length text ≤ at → NumberAt limit text from after NoNumber
+    pub text_ends : length text ≤ at → NumberAt limit text from after None
     text_ends past other rest fits e =
         let digits = decimal_digits number (omega (arith, so_far.small)) in
         let longer = begun_decimal (decimal number) other digits (omega arith) (after_no_digit after) (sym so_far.spells ∙ e) in
         let none = simp length-append at (ap length (sym (drop_of_length-le text past) ∙ longer.2)) in
         omega (arith, none)
 
-    pub must_end : limit ≤ number * 10 → {read : Number} → read ≡ ended_by after (get_or text at 0) number (at + 1) →
+    pub must_end : limit ≤ number * 10 → {read : Option (ℕ × ℕ)} → read ≡ ended_by after (get_or text at 0) number (at + 1) →
         NumberAt limit text from after read
     must_end full said =
         let byte = get_or text at 0 in
@@ -160,14 +159,14 @@ module _ {limit : ℕ} (bound : limit ≤ room) where
         byte_further text at 0 at (omega arith) e
         ∙ get_or-append (decimal number) (after_byte after ∷ rest) 0 0 (decimal_some number (omega arith))
 
-    pub leading_zero : get_or text at 0 ≡ 48 → (get_or text (at + 1) 0 ≡ after_byte after → ⊥) → NumberAt limit text at after NoNumber
+    pub leading_zero : get_or text at 0 ≡ 48 → (get_or text (at + 1) 0 ≡ after_byte after → ⊥) → NumberAt limit text at after None
     leading_zero is differs number rest small e =
         let none = no_leading_zero number (omega arith) (sym (begins_with number rest small e) ∙ is) in
         let zero-first =
         e ∙ ap (λ (word : List ℕ). word ++ (after_byte after ∷ rest)) (ap decimal none ∙ decimal_of_digit 0 (omega arith)) in
         differs (byte_further text at 1 (at + 1) refl zero-first)
 
-    pub zero_ends : 0 < limit → get_or text at 0 ≡ 48 → {byte : ℕ} → byte ≡ get_or text (at + 1) 0 → {read : Number} →
+    pub zero_ends : 0 < limit → get_or text at 0 ≡ 48 → {byte : ℕ} → byte ≡ get_or text (at + 1) 0 → {read : Option (ℕ × ℕ)} →
         read ≡ ended_by after byte 0 (at + 2) → NumberAt limit text at after read
     zero_ends some is {byte} second said =
         by_byte (NumberAt limit text at after) byte (after_byte after) said
@@ -177,7 +176,7 @@ module _ {limit : ℕ} (bound : limit ≤ room) where
         (some, omega arith, omega arith, here.1 ∙ ap₂ ◌++◌ (sym (decimal_of_digit 0 (omega arith))) behind.1))
         (λ differs. leading_zero is (λ ends. differs (second ∙ ends)))
 
-    pub no_digit : (IsDigit (get_or text at 0) → ⊥) → NumberAt limit text at after NoNumber
+    pub no_digit : (IsDigit (get_or text at 0) → ⊥) → NumberAt limit text at after None
     no_digit none number rest small e =
         none
         (subst IsDigit (sym (begins_with number rest small e))

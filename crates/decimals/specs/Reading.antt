@@ -1,10 +1,8 @@
 -- What reading a decimal at a place of a text answers: a decimal has no leading zeros, stays below a limit and ends with the byte
 -- that must follow it. Assumes nothing.
-use Rattle.std.specs.Prelude.{ℕ, ◌<◌, ◌≤◌, ◌≡◌, List, ◌∷◌, ◌++◌, cond, eqb, length, get_or, drop}
+use Rattle.std.specs.Prelude.{ℕ, ◌<◌, ◌≤◌, ◌≡◌, List, ◌∷◌, ◌++◌, cond, eqb, length, get_or, drop, Option, Some, None}
 use Rattle.decimals.specs.declared.After.{After}
 use Rattle.decimals.specs.declared.After.TheVariants.{Space, LineFeed}
-use Rattle.decimals.specs.declared.Number.{Number}
-use Rattle.decimals.specs.declared.Number.TheVariants.{Value, NoNumber}
 use Rattle.decimals.specs.Decimals.{space, line_feed, digit, decimal}
 
 -- the byte that must follow a decimal
@@ -13,15 +11,15 @@ after_byte Space = space
 after_byte LineFeed = line_feed
 
 -- a number whose digits have been read and the place behind, if that byte follows
-abbrev pub ended_by : After → ℕ → ℕ → ℕ → Number
-ended_by after byte number next = cond (eqb byte (after_byte after)) (Value number next) NoNumber
+abbrev pub ended_by : After → ℕ → ℕ → ℕ → Option (ℕ × ℕ)
+ended_by after byte number next = cond (eqb byte (after_byte after)) (Some (number, next)) None
 
 -- a decimal below the limit and the byte that must follow: the number and the place behind, or there is none
-abbrev pub NumberAt : ℕ → List ℕ → ℕ → After → Number → Type 0
-NumberAt limit text at after (Value number next) =
+abbrev pub NumberAt : ℕ → List ℕ → ℕ → After → Option (ℕ × ℕ) → Type 0
+NumberAt limit text at after (Some (number, next)) =
     (number < limit) × (at < next) × (next ≤ length text)
     × (drop at text ≡ decimal number ++ (after_byte after ∷ drop next text))
-NumberAt limit text at after NoNumber =
+NumberAt limit text at after None =
     (number : ℕ) (rest : List ℕ) → number < limit → drop at text ≡ decimal number ++ (after_byte after ∷ rest) → ⊥
 
 -- a number stands at a place as a single digit that begins a decimal, which is at most the greatest

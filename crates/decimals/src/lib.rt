@@ -3,8 +3,8 @@
 
 #![tactic(auto)]
 
-ghost use Rattle.std.specs.Prelude.{◌+◌, ◌*◌, ◌≤◌, ◌≡◌, leb, length, get_or};
-ghost use Rattle.decimals.specs.Reading.{ended_by, NumberAt, FirstDigit};
+ghost use Rattle.std.specs.Prelude.{◌+◌, ◌≤◌, ◌≡◌, length, get_or};
+ghost use Rattle.decimals.specs.Reading.{after_byte, ended_by, NumberAt, FirstDigit};
 
 // What must follow a decimal: a space between words, a line feed at the end of a line.
 #[derive(Clone, Copy)]
@@ -13,15 +13,20 @@ pub enum After {
     LineFeed,
 }
 
-// A decimal with the byte after it, and the place behind both.
-#[derive(Clone, Copy)]
-pub enum Number {
-    Value(u64, usize),
-    NoNumber,
+impl After {
+    fn byte(self) -> u8
+        ensures { result ≡ after_byte self }
+    {
+        match self {
+            After::Space => b' ',
+            After::LineFeed => b'\n',
+        }
+    }
 }
 
-// A decimal without leading zeros, at most the given number, and the byte that must follow it.
-pub fn read_number(text: &[u8], at: usize, after: After, most: u64) -> Number
+// A decimal without leading zeros, at most the given number, and the byte that must follow it: the number
+// and the place behind both.
+pub fn read_number(text: &[u8], at: usize, after: After, most: u64) -> Option<(u64, usize)>
     requires { at ≤ length text.now }
     ensures { NumberAt (most + 1) text.now at after result }
 {
@@ -29,67 +34,58 @@ pub fn read_number(text: &[u8], at: usize, after: After, most: u64) -> Number
     match first {
         b'0' => ended(after, byte_at(text, at + 1), 0, at + 2),
         b'1'..=b'9' => {
-            let begun = numbers::wide64(first) - 48;
+            let begun = u64::from(first - b'0');
             if most < begun {
-                return Number::NoNumber;
+                return None;
             }
             read_digits(text, at, after, begun, most)
         }
-        _ => Number::NoNumber,
+        _ => None,
     }
 }
 
 // Goes on with a decimal whose first digit is not 0: its further digits, and the byte that must follow
 // them. Below a tenth of the greatest number every digit has room; of one that is not, whether it has
-// room is told before it is taken in, and no digit comes after it. It ends since each turn leaves less of
-// the text.
-fn read_digits(text: &[u8], from: usize, after: After, begun: u64, most: u64) -> Number
+// room is told before it is taken in, and no digit comes after it.
+fn read_digits(
+    text: &[u8],
+    from: usize,
+    after: After,
+    begun: u64,
+    most: u64,
+) -> Option<(u64, usize)>
     requires { FirstDigit text.now from begun most }
     ensures { NumberAt (most + 1) text.now from after result }
 {
     let mut number = begun;
-    let mut at = from + 1;
-    while at < text.len() {
+    for at in from + 1..text.len() {
         let byte = text[at];
         match byte {
             b'0'..=b'9' => {
-                let digit = numbers::wide64(byte) - 48;
+                let digit = u64::from(byte - b'0');
                 if most / 10 <= number {
-                    if !has_room(number, digit, most) {
-                        return Number::NoNumber;
+                    let longer = number.checked_mul(10)?.checked_add(digit)?;
+                    if most < longer {
+                        return None;
                     }
-                    return ended(after, byte_at(text, at + 1), number * 10 + digit, at + 2);
+                    return ended(after, byte_at(text, at + 1), longer, at + 2);
                 }
                 number = number * 10 + digit;
-                at = at + 1;
             }
             _ => return ended(after, byte, number, at + 1),
         }
     }
-    Number::NoNumber
-}
-
-// Whether a number with one digit more is at most the given one: ten times the number is, and what is
-// then left is no less than the digit.
-fn has_room(number: u64, digit: u64, most: u64) -> bool
-    ensures { result ≡ leb (number * 10 + digit) most }
-{
-    number <= most / 10 && digit <= most - number * 10
+    None
 }
 
 // The number and the place behind, if the byte after it is the one that must follow.
-fn ended(after: After, byte: u8, number: u64, next: usize) -> Number
+fn ended(after: After, byte: u8, number: u64, next: usize) -> Option<(u64, usize)>
     ensures { result ≡ ended_by after byte number next }
 {
-    match after {
-        After::Space => match byte {
-            b' ' => Number::Value(number, next),
-            _ => Number::NoNumber,
-        },
-        After::LineFeed => match byte {
-            b'\n' => Number::Value(number, next),
-            _ => Number::NoNumber,
-        },
+    if byte == after.byte() {
+        Some((number, next))
+    } else {
+        None
     }
 }
 
@@ -97,5 +93,5 @@ fn ended(after: After, byte: u8, number: u64, next: usize) -> Number
 pub fn byte_at(text: &[u8], at: usize) -> u8
     ensures { result ≡ get_or text.now at 0 }
 {
-    if at < text.len() { text[at] } else { 0 }
+    text.get(at).copied().unwrap_or(0)
 }

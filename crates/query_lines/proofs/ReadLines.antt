@@ -1,7 +1,6 @@
 -- A line is read by its words: where each stands the line does, and where one is missing there is none. Assumes nothing.
 --   ColumnAt, LiteralAt the number at a place, by what follows it
---   word_read           a text with the bytes of "segment " begins with them
---   word_missing        a text with another byte among its first eight has no line 0
+--   word_missing        a text that does not begin with "segment " has no line 0
 --   segment_read        line 0 is the word and the decimal after it, or there is none
 --   column_missing      no column, no line
 --   sign_missing        a column and no sign, no line
@@ -17,10 +16,7 @@ use Rattle.query.specs.declared.Comparison.{Comparison}
 use Rattle.query.specs.declared.Test.{Test}
 use Rattle.query.specs.Tests.{literal_of}
 use Rattle.decimals.specs.declared.After.TheVariants.{Space, LineFeed}
-use Rattle.decimals.specs.declared.Number.{Number}
-use Rattle.decimals.specs.declared.Number.TheVariants.{Value, NoNumber}
-use Rattle.query_lines.specs.declared.Sign.TheVariants.{Compares, NoSign}
-use Rattle.query_lines.specs.declared.LineRead.TheVariants.{Asks, Malformed}
+use Rattle.std.specs.Prelude.{Option, Some, None}
 use Rattle.decimals.specs.Decimals.{decimal, space, line_feed}
 use Rattle.query_lines.specs.Lines.{segment_word, sign_of, test_text, SmallTest, BeginsSegment}
 use Rattle.decimals.specs.Reading.{NumberAt}
@@ -30,39 +26,32 @@ use Rattle.query_lines.proofs.Lines.{segment_line_then, test_line_then, same_sig
 use Rattle.decimals.proofs.Places.{front_by_bytes}
 
 -- the number at a place: a column, which a space follows, or a literal, which a line feed follows
-abbrev pub ColumnAt : List ℕ → ℕ → Number → Type 0
+abbrev pub ColumnAt : List ℕ → ℕ → Option (ℕ × ℕ) → Type 0
 ColumnAt text at = NumberAt decimal_limit text at Space
 
-abbrev pub LiteralAt : List ℕ → ℕ → Number → Type 0
+abbrev pub LiteralAt : List ℕ → ℕ → Option (ℕ × ℕ) → Type 0
 LiteralAt text at = NumberAt decimal_limit text at LineFeed
 
 module _ (text : List ℕ) where
-  pub word_read : ((k : ℕ) → k < 8 → get_or text k 0 ≡ get_or segment_word k 0) → (8 ≤ length text) × (text ≡ segment_word ++ drop 8 text)
-  word_read each = front_by_bytes segment_word text (omega arith) each
-
-  pub word_missing : (k : ℕ) → k < 8 → (get_or text k 0 ≡ get_or segment_word k 0 → ⊥) → BeginsSegment text → ⊥
-  word_missing k within differs begins =
-      let words = begins.3 ∙ segment_line_then begins.0 begins.1 in
-      differs
-      (ap (λ (bytes : List ℕ). get_or bytes k 0) words
-      ∙ get_or-append segment_word (decimal begins.0 ++ (line_feed ∷ begins.1)) 0 k within)
+  pub word_missing : ((rest : List ℕ) → text ≡ segment_word ++ rest → ⊥) → BeginsSegment text → ⊥
+  word_missing none begins = none _ (begins.3 ∙ segment_line_then begins.0 begins.1)
 
   module _ (word : text ≡ segment_word ++ drop 8 text) where
-    pub segment_read : (read : Number) → LiteralAt text 8 read → SegmentAt text read
-    segment_read (Value size next) number = (
+    pub segment_read : (read : Option (ℕ × ℕ)) → LiteralAt text 8 read → SegmentAt text read
+    segment_read (Some (size, next)) number = (
       number.0,
       number.2,
       word ∙ ap (λ (rest : List ℕ). segment_word ++ rest) number.3 ∙ sym (segment_line_then size (drop next text)),
     )
-    segment_read NoNumber none =
+    segment_read None none =
         λ begins. none begins.0 begins.1 begins.2
         (append_cancel_left segment_word _ _ (sym word ∙ begins.3 ∙ segment_line_then begins.0 begins.1))
 
 module _ (text : List ℕ) (at : ℕ) where
-  pub column_missing : ColumnAt text at NoNumber → LineAt text at Malformed
+  pub column_missing : ColumnAt text at None → LineAt text at None
   column_missing none test rest small e = none test.column _ small.column (e ∙ test_line_then test rest)
 
-  module _ {column behind : ℕ} (number : ColumnAt text at (Value column behind)) where
+  module _ {column behind : ℕ} (number : ColumnAt text at (Some (column, behind))) where
     -- a line that stands at the place goes on behind its column
     behind_column : (test : Test) (rest : List ℕ) → SmallTest test → drop at text ≡ test_text test ++ rest →
         drop behind text ≡ sign_of test.comparison ++ (space ∷ (decimal (literal_of test.comparison) ++ (line_feed ∷ rest)))
@@ -70,18 +59,18 @@ module _ (text : List ℕ) (at : ℕ) where
         (same_decimal column test.column (omega arith) (omega (arith, small.column)) (λ d. omega arith) (λ d. omega arith)
         (sym number.3 ∙ e ∙ test_line_then test rest)).2
 
-    pub sign_missing : SignAt text behind NoSign → LineAt text at Malformed
+    pub sign_missing : SignAt text behind None → LineAt text at None
     sign_missing none test rest small e = none test.comparison _ (behind_column test rest small e)
 
-    module _ (comparison : Comparison) {next : ℕ} (sign : SignAt text behind (Compares comparison next)) where
-      pub literal_missing : LiteralAt text next NoNumber → LineAt text at Malformed
+    module _ (comparison : Comparison) {next : ℕ} (sign : SignAt text behind (Some (comparison, next))) where
+      pub literal_missing : LiteralAt text next None → LineAt text at None
       literal_missing none test rest small e =
           none (literal_of test.comparison) rest small.literal
           (same_sign comparison test.comparison (sym sign.2 ∙ behind_column test rest small e)).1
 
-      pub line_read : {literal after : ℕ} → LiteralAt text next (Value literal after) → (asked : Comparison) →
+      pub line_read : {literal after : ℕ} → LiteralAt text next (Some (literal, after)) → (asked : Comparison) →
           sign_of asked ≡ sign_of comparison → literal_of asked ≡ literal →
-          LineAt text at (Asks (record { column = column; comparison = asked }) after)
+          LineAt text at (Some (record { column = column; comparison = asked }, after))
       line_read {literal} {after} last asked same carried = (
         record { column = number.0; literal = omega (arith, last.0) },
         omega arith,

@@ -11,8 +11,7 @@ use mathlib.Core.List.{List, [], ◌∷◌, ◌++◌}
 use lib.ListN.{length, get_or, drop}
 use Rattle.query.specs.declared.Comparison.{Comparison}
 use Rattle.query.specs.declared.Comparison.TheVariants.{Less, AtMost, More, AtLeast, Equal, Differs}
-use Rattle.query_lines.specs.declared.Sign.{Sign}
-use Rattle.query_lines.specs.declared.Sign.TheVariants.{Compares, NoSign}
+use Rattle.std.specs.Prelude.{Option, Some, None}
 use Rattle.decimals.specs.Decimals.{space}
 use Rattle.query_lines.specs.Lines.{sign_of}
 use Rattle.query_lines.specs.Steps.{SignAt, spaced_at}
@@ -27,7 +26,7 @@ pub record NotSigned (first second third : ℕ) : Type 0 where
   pub differs : first ≡ 33 → second ≡ 61 → third ≡ 32 → ⊥
 
 module _ (text : List ℕ) (at : ℕ) where
-  pub no_sign : NotSigned (get_or text at 0) (get_or text (at + 1) 0) (get_or text (at + 2) 0) → SignAt text at NoSign
+  pub no_sign : NotSigned (get_or text at 0) (get_or text (at + 1) 0) (get_or text (at + 2) 0) → SignAt text at None
   no_sign none comparison rest e =
       refuted comparison
       (byte_further text at 0 at (omega arith) e)
@@ -49,19 +48,19 @@ module _ (text : List ℕ) (at : ℕ) where
     first_stands = byte_stands text at (at + 1) first refl some is
 
     pub short_sign : (next : ℕ) → sign_of comparison ≡ first ∷ [] → next ≡ at + 2 → get_or text (at + 1) 0 ≡ space →
-        SignAt text at (Compares comparison next)
+        SignAt text at (Some (comparison, next))
     short_sign next sign follows spaced =
         let behind = byte_stands text (at + 1) next space (omega arith) (omega arith) spaced in
         (omega arith, omega arith, first_stands.1 ∙ rw (sign, behind.1))
 
     pub long_sign : (next : ℕ) → sign_of comparison ≡ first ∷ (61 ∷ []) → next ≡ at + 3 → get_or text (at + 1) 0 ≡ 61 →
-        get_or text (at + 2) 0 ≡ space → SignAt text at (Compares comparison next)
+        get_or text (at + 2) 0 ≡ space → SignAt text at (Some (comparison, next))
     long_sign next sign follows second spaced =
         let middle = byte_stands text (at + 1) (at + 2) 61 (omega arith) (omega arith) second in
         let behind = byte_stands text (at + 2) next space (omega arith) (omega arith) spaced in
         (omega arith, omega arith, first_stands.1 ∙ rw (sign, middle.1, behind.1))
 
-  pub sign_if_spaced : (next : ℕ) (comparison : Comparison) {sign : Sign} → sign ≡ spaced_at text next comparison →
-      (get_or text next 0 ≡ space → SignAt text at (Compares comparison (next + 1))) →
-      ((get_or text next 0 ≡ space → ⊥) → SignAt text at NoSign) → SignAt text at sign
+  pub sign_if_spaced : (next : ℕ) (comparison : Comparison) {sign : Option (Comparison × ℕ)} → sign ≡ spaced_at text next comparison →
+      (get_or text next 0 ≡ space → SignAt text at (Some (comparison, next + 1))) →
+      ((get_or text next 0 ≡ space → ⊥) → SignAt text at None) → SignAt text at sign
   sign_if_spaced next comparison said there missing = by_byte (SignAt text at) (get_or text next 0) space said there missing

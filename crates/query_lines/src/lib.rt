@@ -2,87 +2,42 @@
 
 #![tactic(auto)]
 
-ghost use Rattle.std.specs.Prelude.{◌≡◌, ◌+◌, ◌<◌, ◌≤◌, eqb, length, get_or};
+ghost use Rattle.std.specs.Prelude.{◌≡◌, ◌+◌, ◌≤◌, length};
 ghost use Rattle.query.specs.Tests.{literal_of};
-ghost use Rattle.query_lines.specs.Lines.{segment_word, sign_of};
+ghost use Rattle.query_lines.specs.Lines.{sign_of};
 ghost use Rattle.query_lines.specs.Steps.{SegmentAt, SignAt, spaced_at, LineAt};
 
-use decimals::{After, Number};
+use decimals::After;
 use limits::DECIMAL_LIMIT;
 use query::{Comparison, Test};
 
 // No decimal is greater.
 const GREATEST_DECIMAL: u64 = DECIMAL_LIMIT - 1;
 
-// A comparison by its sign, its literal still 0, and the place behind the space after it.
-#[derive(Clone, Copy)]
-enum Sign {
-    Compares(Comparison, usize),
-    NoSign,
-}
-
-// The test of a line, and the place behind the line.
-#[derive(Clone, Copy)]
-pub enum LineRead {
-    Asks(Test, usize),
-    Malformed,
-}
-
-// Line 0: the word "segment", a space, the size, a line feed.
-pub fn read_segment(text: &[u8]) -> Number
+// Line 0: the word "segment", a space, the size, a line feed. The size, and the place behind the line.
+pub fn read_segment(text: &[u8]) -> Option<(u64, usize)>
     ensures { SegmentAt text.now result }
 {
-    let mut i = 0;
-    while i < 8 {
-        if !begins(i, decimals::byte_at(text, i)) {
-            return Number::NoNumber;
-        }
-        i = i + 1;
+    if !text.starts_with(b"segment ") {
+        return None;
     }
     decimals::read_number(text, 8, After::LineFeed, GREATEST_DECIMAL)
 }
 
-// Whether this byte stands at a place of the word "segment" and its space.
-fn begins(place: usize, byte: u8) -> bool
-    requires { place < 8 }
-    ensures { result ≡ eqb byte (get_or segment_word place 0) }
-{
-    match byte {
-        b's' => place == 0,
-        b'e' => place == 1 || place == 4,
-        b'g' => place == 2,
-        b'm' => place == 3,
-        b'n' => place == 5,
-        b't' => place == 6,
-        b' ' => place == 7,
-        _ => false,
-    }
-}
-
-// A line of a test, from a place on: column, space, sign, space, literal, line feed.
-pub fn read_line(text: &[u8], at: usize) -> LineRead
+// A line of a test, from a place on: column, space, sign, space, literal, line feed. The test, and the
+// place behind the line.
+pub fn read_line(text: &[u8], at: usize) -> Option<(Test, usize)>
     requires { at ≤ length text.now }
     ensures { LineAt text.now at result }
 {
-    let column = decimals::read_number(text, at, After::Space, GREATEST_DECIMAL);
-    let Number::Value(column, behind) = column else {
-        return LineRead::Malformed;
+    let (column, behind) = decimals::read_number(text, at, After::Space, GREATEST_DECIMAL)?;
+    let (comparison, behind) = read_sign(text, behind)?;
+    let (literal, behind) = decimals::read_number(text, behind, After::LineFeed, GREATEST_DECIMAL)?;
+    let test = Test {
+        column: column as usize,
+        comparison: with_literal(comparison, literal),
     };
-    let sign = read_sign(text, behind);
-    let Sign::Compares(comparison, behind) = sign else {
-        return LineRead::Malformed;
-    };
-    let literal = decimals::read_number(text, behind, After::LineFeed, GREATEST_DECIMAL);
-    let Number::Value(literal, behind) = literal else {
-        return LineRead::Malformed;
-    };
-    LineRead::Asks(
-        Test {
-            column: column as usize,
-            comparison: with_literal(comparison, literal),
-        },
-        behind,
-    )
+    Some((test, behind))
 }
 
 // The comparison of the same sign with this literal.
@@ -99,41 +54,32 @@ fn with_literal(comparison: Comparison, literal: u64) -> Comparison
     }
 }
 
-// A sign and the space after it.
-fn read_sign(text: &[u8], at: usize) -> Sign
+// A sign and the space after it: a comparison by its sign, its literal still 0, and the place behind the space.
+fn read_sign(text: &[u8], at: usize) -> Option<(Comparison, usize)>
     requires { at ≤ length text.now }
     ensures { SignAt text.now at result }
 {
     let first = decimals::byte_at(text, at);
     let second = decimals::byte_at(text, at + 1);
-    match first {
-        b'<' => match second {
-            b' ' => Sign::Compares(Comparison::Less(0), at + 2),
-            b'=' => spaced(text, at + 2, Comparison::AtMost(0)),
-            _ => Sign::NoSign,
-        },
-        b'>' => match second {
-            b' ' => Sign::Compares(Comparison::More(0), at + 2),
-            b'=' => spaced(text, at + 2, Comparison::AtLeast(0)),
-            _ => Sign::NoSign,
-        },
-        b'=' => spaced(text, at + 1, Comparison::Equal(0)),
-        b'!' => match second {
-            b'=' => spaced(text, at + 2, Comparison::Differs(0)),
-            _ => Sign::NoSign,
-        },
-        _ => Sign::NoSign,
+    match (first, second) {
+        (b'<', b'=') => spaced(text, at + 2, Comparison::AtMost(0)),
+        (b'<', _) => spaced(text, at + 1, Comparison::Less(0)),
+        (b'>', b'=') => spaced(text, at + 2, Comparison::AtLeast(0)),
+        (b'>', _) => spaced(text, at + 1, Comparison::More(0)),
+        (b'=', _) => spaced(text, at + 1, Comparison::Equal(0)),
+        (b'!', b'=') => spaced(text, at + 2, Comparison::Differs(0)),
+        _ => None,
     }
 }
 
 // The comparison, if a space stands at the place.
-fn spaced(text: &[u8], at: usize, comparison: Comparison) -> Sign
+fn spaced(text: &[u8], at: usize, comparison: Comparison) -> Option<(Comparison, usize)>
     requires { at ≤ length text.now + 2 }
     ensures { result ≡ spaced_at text.now at comparison }
 {
-    let byte = decimals::byte_at(text, at);
-    match byte {
-        b' ' => Sign::Compares(comparison, at + 1),
-        _ => Sign::NoSign,
+    if decimals::byte_at(text, at) == b' ' {
+        Some((comparison, at + 1))
+    } else {
+        None
     }
 }

@@ -14,8 +14,7 @@ use lib.ListN.{length, drop, set, length-append, length-drop, drop_of_length-le}
 use Rattle.query.specs.declared.Test.{Test}
 use Rattle.limits.specs.Limits.{most_tests}
 use Rattle.query.specs.Tests.{empty_slot, slots_of}
-use Rattle.decimals.specs.declared.Number.TheVariants.{Value}
-use Rattle.query_lines.specs.declared.LineRead.TheVariants.{Asks, Malformed}
+use Rattle.std.specs.Prelude.{Some, None}
 use Rattle.text.specs.declared.Asked.{Asked}
 use Rattle.query_lines.specs.Lines.{segment_text, test_text, text_of}
 use Rattle.text.specs.Reading.{refused_with, Formed, Reads}
@@ -33,7 +32,7 @@ pub record ReadUpTo (text : List ℕ) (size at count : ℕ) (slots : List Test) 
   pub few : count ≤ at
   pub within : at ≤ length text
 
-pub first_line_lem : (text : List ℕ) (size : ℕ) {at : ℕ} {slots : List Test} → SegmentAt text (Value size at) →
+pub first_line_lem : (text : List ℕ) (size : ℕ) {at : ℕ} {slots : List Test} → SegmentAt text (Some (size, at)) →
     slots ≡ slots_of empty_slot [] → ReadUpTo text size at 0 slots
 unfolding text_of flatten
 first_line_lem text size line empty = record {
@@ -55,7 +54,7 @@ with_query size count slots = record {
 }
 
 module _ {text : List ℕ} {size at count : ℕ} {slots : List Test} (so_far : ReadUpTo text size at count slots) where
-  one_line_more : (test : Test) {next : ℕ} {now : List Test} → LineAt text at (Asks test next) →
+  one_line_more : (test : Test) {next : ℕ} {now : List Test} → LineAt text at (Some (test, next)) →
       now ≡ slots_of empty_slot (so_far.tests ++ (test ∷ [])) → ReadUpTo text size next (count + 1) now
   one_line_more test {next} line slots-now = record {
     tests = so_far.tests ++ (test ∷ []);
@@ -71,20 +70,20 @@ module _ {text : List ℕ} {size at count : ℕ} {slots : List Test} (so_far : R
     within = line.2;
   }
 
-  pub kept_line : (test : Test) {next : ℕ} → LineAt text at (Asks test next) → count < most_tests →
+  pub kept_line : (test : Test) {next : ℕ} → LineAt text at (Some (test, next)) → count < most_tests →
       ReadUpTo text size next (count + 1) (set slots count test)
   kept_line test line room =
       one_line_more test line
       (ap₂ (λ (list : List Test) (place : ℕ). set list place test) so_far.held (sym so_far.many)
       ∙ filled_one_more empty_slot most_tests so_far.tests test (omega (arith, so_far.many)))
 
-  pub counted_line : (test : Test) {next : ℕ} → LineAt text at (Asks test next) → most_tests ≤ count →
+  pub counted_line : (test : Test) {next : ℕ} → LineAt text at (Some (test, next)) → most_tests ≤ count →
       ReadUpTo text size next (count + 1) slots
   counted_line test line full =
       one_line_more test line
       (so_far.held ∙ sym (filled_past_last empty_slot most_tests so_far.tests test (omega (arith, so_far.many))))
 
-  pub malformed_line : at < length text → LineAt text at Malformed → Reads text (refused_with 17 (count + 1))
+  pub malformed_line : at < length text → LineAt text at None → Reads text (refused_with 17 (count + 1))
   malformed_line inside none =
       let place : 1 + length so_far.tests ≡ count + 1 = omega (arith, so_far.many) in
       subst₂ (λ (bytes : List ℕ) (line : ℕ). Reads bytes (refused_with 17 line)) (sym so_far.spelt) place

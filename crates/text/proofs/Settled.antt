@@ -15,7 +15,7 @@ use Rattle.query.specs.declared.Test.{Test}
 use Rattle.query.specs.Tests.{empty_slot}
 use Rattle.text.specs.declared.Asked.{Asked}
 use Rattle.decimals.specs.declared.After.TheVariants.{LineFeed}
-use Rattle.decimals.specs.declared.Number.TheVariants.{NoNumber}
+use Rattle.std.specs.Prelude.{None}
 use Rattle.decimals.specs.Decimals.{decimal, decimal_in, line_feed}
 use Rattle.query_lines.specs.Lines.{segment_word, segment_text, test_text, text_of}
 use Rattle.text.specs.Reading.{accepted, refused_with, Formed, Reads}
@@ -52,12 +52,12 @@ listing_read {reply} answer =
     (subst (λ (text : List ℕ). Reads text reply) (sym listing_printed) answer)
 
 pub empty_refused : Reads [] (refused_with 17 0)
-empty_refused = Reads.no_segment [] (word_missing [] 0 (omega arith) (λ e. omega arith))
+empty_refused = Reads.no_segment [] (word_missing [] (λ rest e. cc))
 
 pub leading_zero_is_17 : Reads (segment_word ++ (48 ∷ 56 ∷ line_feed ∷ [])) (refused_with 17 0)
 leading_zero_is_17 =
     let text = segment_word ++ (48 ∷ 56 ∷ line_feed ∷ []) in
-    Reads.no_segment text (segment_read text refl NoNumber (leading_zero (omega arith) text 8 LineFeed refl (λ e. omega arith)))
+    Reads.no_segment text (segment_read text refl None (leading_zero (omega arith) text 8 LineFeed refl (λ e. omega arith)))
 
 -- as many tests as one likes
 many_formed : (many : ℕ) → Formed 8 (replicate many empty_slot)

@@ -7,10 +7,8 @@ ghost use Rattle.std.specs.Prelude.{◌≡◌};
 ghost use Rattle.text.specs.Reading.{Reads, refused_with};
 
 use answers::Refusal;
-use decimals::Number;
 use limits::MOST_TESTS;
 use query::Query;
-use query_lines::LineRead;
 
 // The reply to a text: the segment size and the query, or the refusal.
 #[derive(Clone, Copy)]
@@ -26,21 +24,18 @@ pub fn read(text: &[u8]) -> Asked
     ensures { Reads text.now result }
 {
     let mut tests = [query::empty_slot(); MOST_TESTS];
-    let first = query_lines::read_segment(text);
-    let Number::Value(size, after) = first else {
+    let Some((size, mut at)) = query_lines::read_segment(text) else {
         return refused(17, 0);
     };
-    let mut at = after;
     let mut count: usize = 0;
     while at < text.len() {
-        let line = query_lines::read_line(text, at);
-        let LineRead::Asks(test, next) = line else {
+        let Some((test, next)) = query_lines::read_line(text, at) else {
             return refused(17, count + 1);
         };
         if count < MOST_TESTS {
             tests[count] = test;
         }
-        count = count + 1;
+        count += 1;
         at = next;
     }
     if MOST_TESTS < count {
