@@ -15,9 +15,12 @@ use Rattle.query.specs.declared.Test.{Test}
 use Rattle.limits.specs.Limits.{most_tests}
 use Rattle.query.specs.Tests.{empty_slot, slots_of}
 use Rattle.std.specs.Prelude.{Some, None}
+use Rattle.std.specs.Prelude.{Result, Ok, Err}
+use Rattle.refusals.specs.declared.Refusal.{Refusal}
+use Rattle.refusals.specs.declared.Refusal.TheVariants.{TooManyTests, MalformedText}
 use Rattle.text.specs.declared.Asked.{Asked}
 use Rattle.query_lines.specs.Lines.{segment_text, test_text, text_of}
-use Rattle.text.specs.Reading.{refused_with, Formed, Reads}
+use Rattle.text.specs.Reading.{Formed, Reads}
 use Rattle.query_lines.specs.Steps.{SegmentAt, LineAt}
 use Rattle.query_lines.proofs.Lines.{text_one_more}
 use Rattle.text.proofs.Formed.{no_tests, test_behind}
@@ -48,7 +51,6 @@ first_line_lem text size line empty = record {
 -- an accepted reply of some count and slots
 abbrev with_query : ℕ → ℕ → List Test → Asked
 with_query size count slots = record {
-  refusal = record { number = 0; place = 0; need = 0 };
   size = size;
   query = record { count = count; tests = slots };
 }
@@ -83,10 +85,10 @@ module _ {text : List ℕ} {size at count : ℕ} {slots : List Test} (so_far : R
       one_line_more test line
       (so_far.held ∙ sym (filled_past_last empty_slot most_tests so_far.tests test (omega (arith, so_far.many))))
 
-  pub malformed_line : at < length text → LineAt text at None → Reads text (refused_with 17 (count + 1))
+  pub malformed_line : at < length text → LineAt text at None → Reads text (Err (MalformedText (count + 1)))
   malformed_line inside none =
       let place : 1 + length so_far.tests ≡ count + 1 = omega (arith, so_far.many) in
-      subst₂ (λ (bytes : List ℕ) (line : ℕ). Reads bytes (refused_with 17 line)) (sym so_far.spelt) place
+      subst₂ (λ (bytes : List ℕ) (line : ℕ). Reads bytes (Err (MalformedText line))) (sym so_far.spelt) place
       (Reads.no_test size so_far.tests (drop at text) so_far.formed (rw length-drop (omega arith))
       (λ begins. none begins.0 begins.1 begins.2 begins.3))
 
@@ -97,13 +99,13 @@ module _ {text : List ℕ} {size at count : ℕ} {slots : List Test} (so_far : R
         ∙ ap (λ (rest : List ℕ). text_of size so_far.tests ++ rest) (drop_of_length-le text past)
         ∙ append-nil (text_of size so_far.tests)
 
-    pub whole_text : count ≤ most_tests → Reads text (with_query size count slots)
+    pub whole_text : count ≤ most_tests → Reads text (Ok (with_query size count slots))
     whole_text enough =
-        subst₃ (λ (bytes : List ℕ) (many : ℕ) (list : List Test). Reads bytes (with_query size many list))
+        subst₃ (λ (bytes : List ℕ) (many : ℕ) (list : List Test). Reads bytes (Ok (with_query size many list)))
         (sym spelt_whole) so_far.many (sym so_far.held)
         (Reads.read size so_far.tests so_far.formed (omega (arith, so_far.many)))
 
-    pub too_many_lines : most_tests < count → Reads text (refused_with 11 0)
+    pub too_many_lines : most_tests < count → Reads text (Err TooManyTests)
     too_many_lines more =
-        subst (λ (bytes : List ℕ). Reads bytes (refused_with 11 0)) (sym spelt_whole)
+        subst (λ (bytes : List ℕ). Reads bytes (Err TooManyTests)) (sym spelt_whole)
         (Reads.too_many size so_far.tests so_far.formed (omega (arith, so_far.many)))

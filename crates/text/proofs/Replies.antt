@@ -16,9 +16,12 @@ use borrow.Author.Tests.{lt-ltb, le-ltb}
 use Rattle.basis.proofs.Truth.{hit, missed}
 use Rattle.query.specs.declared.Test.{Test}
 use Rattle.limits.specs.Limits.{most_tests}
+use Rattle.std.specs.Prelude.{Result, Ok, Err}
+use Rattle.refusals.specs.declared.Refusal.{Refusal}
+use Rattle.refusals.specs.declared.Refusal.TheVariants.{TooManyTests, MalformedText}
 use Rattle.text.specs.declared.Asked.{Asked}
 use Rattle.query_lines.specs.Lines.{segment_text, test_text, text_of, SmallTest, BeginsSegment, BeginsTest}
-use Rattle.text.specs.Reading.{accepted, refused_with, Formed, Reads}
+use Rattle.text.specs.Reading.{accepted, Formed, Reads}
 use Rattle.query_lines.proofs.Lines.{same_segment_line, same_test_line, test_line_some}
 
 -- each test is small
@@ -67,12 +70,12 @@ unfolding text_of
 begins_with_segment size tests rest formed =
     (size, flatten (map test_text tests) ++ rest, formed.size_small, append_assoc (segment_text size) (flatten (map test_text tests)) rest)
 
-pub reply_to : ℕ → List Test → List ℕ → Asked
-reply_to size tests (b ∷ rest) = refused_with 17 (1 + length tests)
-reply_to size tests [] = cond (ltb most_tests (length tests)) (refused_with 11 0) (accepted size tests)
+pub reply_to : ℕ → List Test → List ℕ → Result Asked Refusal
+reply_to size tests (b ∷ rest) = Err (MalformedText (1 + length tests))
+reply_to size tests [] = cond (ltb most_tests (length tests)) (Err TooManyTests) (Ok (accepted size tests))
 
-pub data Taken (text : List ℕ) (reply : Asked) : Type 0 where
-  no_line_0 : (BeginsSegment text → ⊥) → reply ≡ refused_with 17 0 → Taken text reply
+pub data Taken (text : List ℕ) (reply : Result Asked Refusal) : Type 0 where
+  no_line_0 : (BeginsSegment text → ⊥) → reply ≡ Err (MalformedText 0) → Taken text reply
   lines : (size : ℕ) (tests : List Test) (rest : List ℕ) → Formed size tests → (BeginsTest rest → ⊥) →
       text ≡ text_of size tests ++ rest → reply ≡ reply_to size tests rest → Taken text reply
 
@@ -82,7 +85,7 @@ nothing begins =
     let e = ap length begins.3 in
     omega (arith, test_line_some begins.0 begins.2, simp length-append at e)
 
-pub taken : {text : List ℕ} {reply : Asked} → Reads text reply → Taken text reply
+pub taken : {text : List ℕ} {reply : Result Asked Refusal} → Reads text reply → Taken text reply
 unfolding reply_to
 taken (Reads.read size tests formed few) =
     lines size tests [] formed nothing (sym (append-nil _)) (sym (missed _ _ _ (le-ltb most_tests (length tests) few)))

@@ -13,12 +13,15 @@ use lib.ListN.{replicate}
 use Rattle.query.specs.declared.Comparison.TheVariants.{Less, Equal}
 use Rattle.query.specs.declared.Test.{Test}
 use Rattle.query.specs.Tests.{empty_slot}
+use Rattle.std.specs.Prelude.{Result, Ok, Err}
+use Rattle.refusals.specs.declared.Refusal.{Refusal}
+use Rattle.refusals.specs.declared.Refusal.TheVariants.{TooManyTests, MalformedText}
 use Rattle.text.specs.declared.Asked.{Asked}
 use Rattle.decimals.specs.declared.After.TheVariants.{LineFeed}
 use Rattle.std.specs.Prelude.{None}
 use Rattle.decimals.specs.Decimals.{decimal, decimal_in, line_feed}
 use Rattle.query_lines.specs.Lines.{segment_word, segment_text, test_text, text_of}
-use Rattle.text.specs.Reading.{accepted, refused_with, Formed, Reads}
+use Rattle.text.specs.Reading.{accepted, Formed, Reads}
 use Rattle.text.proofs.Formed.{no_tests, test_before}
 use Rattle.decimals.proofs.Numbers.{leading_zero}
 use Rattle.query_lines.proofs.ReadLines.{segment_read, word_missing}
@@ -46,15 +49,15 @@ two_tests_formed =
     (test_before [] (record { column = 1; comparison = Equal 5 }) (record { column = omega arith; literal = omega arith })
     (no_tests (omega arith)))
 
-pub listing_read : {reply : Asked} → Reads listing reply → reply ≡ accepted 8 two_tests
+pub listing_read : {reply : Result Asked Refusal} → Reads listing reply → reply ≡ Ok (accepted 8 two_tests)
 listing_read {reply} answer =
     printed_is_read 8 two_tests two_tests_formed (omega arith)
     (subst (λ (text : List ℕ). Reads text reply) (sym listing_printed) answer)
 
-pub empty_refused : Reads [] (refused_with 17 0)
+pub empty_refused : Reads [] (Err (MalformedText 0))
 empty_refused = Reads.no_segment [] (word_missing [] (λ rest e. cc))
 
-pub leading_zero_is_17 : Reads (segment_word ++ (48 ∷ 56 ∷ line_feed ∷ [])) (refused_with 17 0)
+pub leading_zero_is_17 : Reads (segment_word ++ (48 ∷ 56 ∷ line_feed ∷ [])) (Err (MalformedText 0))
 leading_zero_is_17 =
     let text = segment_word ++ (48 ∷ 56 ∷ line_feed ∷ []) in
     Reads.no_segment text (segment_read text refl None (leading_zero (omega arith) text 8 LineFeed refl (λ e. omega arith)))
@@ -65,8 +68,8 @@ many_formed zero = no_tests (omega arith)
 many_formed (suc many) =
     test_before (replicate many empty_slot) empty_slot (record { column = omega arith; literal = omega arith }) (many_formed many)
 
-pub sixteen_accepted : Reads (text_of 8 (replicate 16 empty_slot)) (accepted 8 (replicate 16 empty_slot))
+pub sixteen_accepted : Reads (text_of 8 (replicate 16 empty_slot)) (Ok (accepted 8 (replicate 16 empty_slot)))
 sixteen_accepted = Reads.read 8 (replicate 16 empty_slot) (many_formed 16) (omega arith)
 
-pub seventeen_refused : Reads (text_of 8 (replicate 17 empty_slot)) (refused_with 11 0)
+pub seventeen_refused : Reads (text_of 8 (replicate 17 empty_slot)) (Err TooManyTests)
 seventeen_refused = Reads.too_many 8 (replicate 17 empty_slot) (many_formed 17) (omega arith)

@@ -6,13 +6,16 @@ use Prim.Native.Nat.{ℕ}
 use mathlib.Core.Path.{◌≡◌, sym, subst, ◌∙◌}
 use mathlib.Core.List.{List, ◌++◌}
 use Rattle.query.specs.declared.Test.{Test}
+use Rattle.std.specs.Prelude.{Result, Ok, Err}
+use Rattle.refusals.specs.declared.Refusal.{Refusal}
+use Rattle.refusals.specs.declared.Refusal.TheVariants.{TooManyTests, MalformedText}
 use Rattle.text.specs.declared.Asked.{Asked}
 use Rattle.query_lines.specs.Lines.{text_of, BeginsSegment}
 use Rattle.text.specs.Reading.{Formed, Reads}
 use Rattle.text.proofs.read.Reads.{Post as Reading}
 use Rattle.text.proofs.Replies.{same_lines, begins_with_segment, reply_to, Taken, taken}
 
-pub single_reply : {text : List ℕ} {first second : Asked} → Reads text first → Reads text second → first ≡ second
+pub single_reply : {text : List ℕ} {first second : Result Asked Refusal} → Reads text first → Reads text second → first ≡ second
 single_reply {text} {first} {second} one other = agree (taken one) (taken other)
   where
     begins : (size : ℕ) (tests : List Test) (rest : List ℕ) → Formed size tests → text ≡ text_of size tests ++ rest → BeginsSegment text
@@ -26,6 +29,6 @@ single_reply {text} {first} {second} one other = agree (taken one) (taken other)
         let same = same_lines size other tests others formed small ends stops (sym e ∙ d) in
         is ∙ (λ i. reply_to (same.0 i) (same.1 i) (same.2 i)) ∙ sym was
 
-pub one_reading : (κs : _) (lent : _) (reply other : Asked) (exit exit' : _) →
+pub one_reading : (κs : _) (lent : _) (reply other : Result Asked Refusal) (exit exit' : _) →
     Reading κs lent reply exit → Reading κs lent other exit' → reply ≡ other
 one_reading κs lent reply other exit exit' first second = single_reply first second

@@ -4,33 +4,32 @@
 #![tactic(auto)]
 
 ghost use Rattle.std.specs.Prelude.{◌≡◌};
-ghost use Rattle.text.specs.Reading.{Reads, refused_with};
+ghost use Rattle.text.specs.Reading.{Reads};
 
-use answers::Refusal;
 use limits::MOST_TESTS;
 use query::Query;
+use refusals::Refusal;
 
-// The reply to a text: the segment size and the query, or the refusal.
+// What a text asks: the segment size and the query.
 #[derive(Clone, Copy)]
 pub struct Asked {
-    pub refusal: Refusal,
     pub size: usize,
     pub query: Query,
 }
 
 // Reads a text whole: the size and at most 16 tests, or refusal 17 at the first malformed line, or
 // 11 where every line is well formed and there are more tests.
-pub fn read(text: &[u8]) -> Asked
+pub fn read(text: &[u8]) -> Result<Asked, Refusal>
     ensures { Reads text.now result }
 {
     let mut tests = [query::empty_slot(); MOST_TESTS];
     let Some((size, mut at)) = query_lines::read_segment(text) else {
-        return refused(17, 0);
+        return Err(Refusal::MalformedText(0));
     };
     let mut count: usize = 0;
     while at < text.len() {
         let Some((test, next)) = query_lines::read_line(text, at) else {
-            return refused(17, count + 1);
+            return Err(Refusal::MalformedText(count + 1));
         };
         if count < MOST_TESTS {
             tests[count] = test;
@@ -39,32 +38,10 @@ pub fn read(text: &[u8]) -> Asked
         at = next;
     }
     if MOST_TESTS < count {
-        return refused(11, 0);
+        return Err(Refusal::TooManyTests);
     }
-    Asked {
-        refusal: Refusal {
-            number: 0,
-            place: 0,
-            need: 0,
-        },
+    Ok(Asked {
         size: size as usize,
         query: Query { count, tests },
-    }
-}
-
-fn refused(number: usize, place: usize) -> Asked
-    ensures { result ≡ refused_with number place }
-{
-    Asked {
-        refusal: Refusal {
-            number,
-            place,
-            need: 0,
-        },
-        size: 0,
-        query: Query {
-            count: 0,
-            tests: [query::empty_slot(); MOST_TESTS],
-        },
-    }
+    })
 }

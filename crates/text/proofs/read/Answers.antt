@@ -7,15 +7,14 @@ use Rattle.text.proofs.read.Goals as goal
 use Rattle.text.proofs.read.Goals.{then-count-lt-MOST_TESTS, else-count-lt-MOST_TESTS}
 
 pub returns-in_default : goal.returns-in_default
-returns-in_default c = rw c.refused.ensures (Reads.no_segment c.args.text.now c.in_default.ensures)
+returns-in_default c = Reads.no_segment c.args.text.now c.in_default.ensures
 
 pub loop-at-init : goal.loop-at-init
 loop-at-init c = first_line_lem _ _ c.in-Some.ensures (rw c.empty_slot-tests.ensures)
 
 pub returns-in_default-read_line : goal.returns-in_default-read_line
 returns-in_default-read_line c =
-    rw c.refused-in_default-read_line.ensures
-    (malformed_line c.loop-at.invariant c.loop-at-test.true c.in_default-read_line.ensures)
+    malformed_line c.loop-at.invariant c.loop-at-test.true c.in_default-read_line.ensures
 
 pub loop-at-preserved : goal.loop-at-preserved
 loop-at-preserved c =
@@ -27,8 +26,7 @@ loop-at-preserved c =
 
 pub returns-then-count-gt-MOST_TESTS : goal.returns-then-count-gt-MOST_TESTS
 returns-then-count-gt-MOST_TESTS c =
-    rw c.refused-then-count-gt-MOST_TESTS.ensures
-    (too_many_lines c.loop-at.invariant c.loop-at-test.false (omega arith))
+    too_many_lines c.loop-at.invariant c.loop-at-test.false (omega arith)
 
 pub returns : goal.returns
 returns c = whole_text c.loop-at.invariant c.loop-at-test.false (omega arith)
