@@ -1,5 +1,4 @@
 -- What is found is what the scan finds, and there is one such finding.
-pub mod Numbered
 pub mod FoundRows
 pub mod Outcomes
 pub mod SingleReply

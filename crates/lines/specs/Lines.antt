@@ -3,6 +3,7 @@ use Rattle.std.specs.Prelude.{ℕ}
 use mathlib.Core.List.{List, [], ◌∷◌, ◌++◌, map, flatten}
 use Rattle.basis.specs.Lists.{below}
 use Rattle.refusals.specs.declared.Refusal.{Refusal}
+use Rattle.refusals.specs.Numbers.{number_of, place_of}
 use Rattle.directory.specs.File.{columns_in}
 use Rattle.register.specs.Cells.{code_at}
 use Rattle.decimals.specs.Decimals.{decimal, space, line_feed}
@@ -54,4 +55,4 @@ row_line file row = row_word ++ (decimal row ++ (colon ∷ (cells file row (colu
 
 -- a refusal's line: "refused", number and place
 unfoldable pub refused_line : Refusal → List ℕ
-refused_line refusal = refused_word ++ (decimal refusal.number ++ (space ∷ (decimal refusal.place ++ (line_feed ∷ []))))
+refused_line refusal = refused_word ++ (decimal (number_of refusal) ++ (space ∷ (decimal (place_of refusal) ++ (line_feed ∷ []))))

@@ -9,8 +9,8 @@ ghost use Rattle.pieces.specs.Pieces.{Wrote, WroteUpTo};
 ghost use Rattle.lines.specs.Lines.{head_line, test_line, cells, row_line, refused_line};
 ghost use Rattle.lines.specs.Steps.{RowAt};
 
-use answers::Refusal;
 use pieces::{put, put_decimal, put_word};
+use refusals::Refusal;
 use register::Shape;
 
 // The line of a refusal, which is the whole listing then.
@@ -18,9 +18,9 @@ pub fn refused_line(out: &mut [u8], from: usize, refusal: Refusal) -> usize
     ensures { Wrote from 0 (refused_line refusal) out.old out.new result }
 {
     let next = put_word(out, from, 0, b"refused ");
-    let next = put_decimal(out, from, next, refusal.number as u64);
+    let next = put_decimal(out, from, next, refusal.number());
     let next = put(out, from, next, b' ');
-    let next = put_decimal(out, from, next, refusal.place as u64);
+    let next = put_decimal(out, from, next, refusal.place() as u64);
     put(out, from, next, b'\n')
 }
 

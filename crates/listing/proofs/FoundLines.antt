@@ -14,12 +14,14 @@ use Rattle.query.specs.declared.Query.{Query}
 use Rattle.query.specs.Tests.{empty_slot, tests_of}
 use Rattle.query.proofs.Slots.{length_filled}
 use Rattle.text.specs.declared.Asked.{Asked}
-use Rattle.text.specs.Reading.{Reads, read, too_many, no_segment, no_test}
+use Rattle.std.specs.Prelude.{Result}
+use Rattle.refusals.specs.declared.Refusal.{Refusal}
+use Rattle.text.specs.Reading.{asked_in, Reads, read, too_many, no_segment, no_test}
 use Rattle.scan.proofs.Accepting.{Accepted, fits}
 use Rattle.sections.specs.Steps.{ColumnsBelow}
 
-pub reads_small : {text : List ℕ} {asked : Asked} → Reads text asked →
-    (asked.query.count ≤ most_tests) × (length asked.query.tests ≡ most_tests)
+pub reads_small : {text : List ℕ} {reply : Result Asked Refusal} → Reads text reply →
+    ((asked_in reply).query.count ≤ most_tests) × (length (asked_in reply).query.tests ≡ most_tests)
 reads_small (read size tests formed few) = (few, length_filled empty_slot most_tests tests)
 reads_small (too_many size tests formed many) = (omega arith, length_filled empty_slot most_tests [])
 reads_small (no_segment text none) = (omega arith, length_filled empty_slot most_tests [])

@@ -6,23 +6,25 @@
 --   length_of_inputs            and is as long in all
 --   inputs_can_be_listed        and can be written
 use Prim.Native.Nat.{ℕ}
-use mathlib.Core.Path.{◌≡◌, refl, sym, ap, ◌∙◌}
+use mathlib.Core.Path.{◌≡◌, refl, sym, ap, subst, ◌∙◌}
 use mathlib.Core.List.{List}
 use mathlib.Core.Bool.{Bool, true, false, ◌||◌, true≢false}
-use native.Mathlib.Omega.{arith}
 use lib.ListN.{length}
 use Rattle.pieces.specs.Pieces.{PieceWritten}
 use Rattle.lines.specs.Lines.{refused_line}
+use Rattle.std.specs.Prelude.{Result, Err}
+use Rattle.refusals.specs.declared.Refusal.{Refusal}
+use Rattle.refusals.specs.declared.Refusal.TheVariants.{InputNotTaken}
 use Rattle.finding.specs.declared.Found.{Found}
-use Rattle.finding.specs.Finding.{refused_found, FoundIn}
+use Rattle.finding.specs.Finding.{FoundIn}
 use Rattle.listing.specs.Found.{Listable, found_lines}
-use Rattle.listing.specs.Inputs.{refusal18, FoundRead, ListedRead, PrintLength}
-use Rattle.listing.proofs.FoundListing.{refusal_listed, same_listing, can_be_listed, listed_in}
+use Rattle.listing.specs.Inputs.{FoundRead, ListedRead, PrintLength}
+use Rattle.listing.proofs.FoundListing.{same_listing, can_be_listed, listed_in}
 
-module _ (first second : Bool) (file text before after : List ℕ) (found : Found) where
+module _ (first second : Bool) (file text before after : List ℕ) (found : Result Found Refusal) where
   -- 18, and nothing else
   abbrev Told : Type 0
-  Told = (found ≡ refused_found refusal18) × (after ≡ before)
+  Told = (found ≡ Err InputNotTaken) × (after ≡ before)
 
   -- one that is not taken
   unread : first || second ≡ true → Told → FoundRead (first || second) file text before after found
@@ -41,13 +43,9 @@ module _ (first second : Bool) (file text before after : List ℕ) (found : Foun
     listed = λ _. made;
   }
 
-module _ (file text filled bits : List ℕ) (found : Found) where
-  -- 18 is a refusal
-  numbered : found ≡ refused_found refusal18 → found.refusal.number ≡ 0 → ⊥
-  numbered told none = let is = ap (λ (f : Found). f.refusal.number) told in absurd (omega arith)
-
-  pub told_18 : found ≡ refused_found refusal18 → found_lines file bits found ≡ refused_line refusal18
-  told_18 told = refusal_listed file bits found (numbered told) ∙ ap (λ (f : Found). refused_line f.refusal) told
+module _ (file text filled bits : List ℕ) (found : Result Found Refusal) where
+  pub told_18 : found ≡ Err InputNotTaken → found_lines file bits found ≡ refused_line InputNotTaken
+  told_18 told = ap (found_lines file bits) told
 
   pub listed_of_inputs : (unread : Bool) → FoundRead unread file text filled bits found → (from : ℕ) (before : List ℕ) {after : List ℕ}
       {answer : ℕ} → PieceWritten (found_lines file bits found) from before after answer →
@@ -60,10 +58,10 @@ module _ (file text filled bits : List ℕ) (found : Found) where
   length_of_inputs true made is = is ∙ ap length (told_18 (made.refused refl).0)
   length_of_inputs false made is =
       let listed = made.listed refl in
-      (listed.0, (listed.1.0, is ∙ ap length (same_listing file listed.0 filled bits found listed.1.1)))
+      (listed.0, (listed.1.0, is ∙ ap length (same_listing file filled bits found listed.0 listed.1.1)))
 
   pub inputs_can_be_listed : (unread : Bool) → FoundRead unread file text filled bits found → Listable file found
-  inputs_can_be_listed true made = λ none. absurd (numbered (made.refused refl).0 none)
+  inputs_can_be_listed true made = subst (Listable file) (sym (made.refused refl).0) tt
   inputs_can_be_listed false made =
       let listed = made.listed refl in
-      can_be_listed file listed.0 filled bits found listed.1.1 listed.1.0
+      can_be_listed file filled bits found listed.0 listed.1.0 listed.1.1

@@ -17,9 +17,12 @@ use Rattle.text.proofs.SingleReply.{single_reply}
 use Rattle.pieces.specs.Pieces.{PieceWritten}
 use Rattle.lines.specs.Lines.{refused_line}
 use Rattle.listing.specs.Listing.{listing_of, Listed}
+use Rattle.std.specs.Prelude.{Result}
+use Rattle.refusals.specs.declared.Refusal.{Refusal}
+use Rattle.refusals.specs.declared.Refusal.TheVariants.{InputNotTaken}
 use Rattle.finding.specs.declared.Found.{Found}
 use Rattle.listing.specs.Found.{found_lines}
-use Rattle.listing.specs.Inputs.{refusal18, unread_inputs, FoundRead, ListedRead}
+use Rattle.listing.specs.Inputs.{unread_inputs, FoundRead, ListedRead}
 use Rattle.listing.proofs.write.Reads.{Post as Writes}
 use Rattle.listing.proofs.write_read.Reads.{Post as WritesInputs}
 use Rattle.finding.proofs.SingleReply.{one_found}
@@ -40,10 +43,10 @@ module _ (file text : List ℕ) (from : ℕ) (before after other : List ℕ) (an
 
   pub one_print : (unread : Bool) → ListedRead unread file text from before after answer →
       ListedRead unread file text from before other number → (after ≡ other) × (answer ≡ number)
-  one_print true first second = one_piece (refused_line refusal18) from before first second
+  one_print true first second = one_piece (refused_line InputNotTaken) from before first second
   one_print false first second = one_listing first second
 
-module _ (file text before : List ℕ) {after other : List ℕ} {found again : Found} where
+module _ (file text before : List ℕ) {after other : List ℕ} {found again : Result Found Refusal} where
   pub one_found_read : (unread : Bool) → FoundRead unread file text before after found → FoundRead unread file text before other again →
       (found ≡ again) × (after ≡ other)
   one_found_read true first second =
@@ -65,7 +68,7 @@ one_write_of_inputs κs lent answer number exit exit' first second =
     let unread = unread_inputs lent.0 (length file) lent.1.1.0 (length text) in
     one_print file text _ _ _ _ answer number unread first second
 
-pub one_prepare : (κs : _) (lent : _) (found again : Found) (exit exit' : _) → Prepares κs lent found exit → Prepares κs lent again exit' →
+pub one_prepare : (κs : _) (lent : _) (found again : Result Found Refusal) (exit exit' : _) → Prepares κs lent found exit → Prepares κs lent again exit' →
     (found ≡ again) × (exit.1.1.1.1.0.now ≡ exit'.1.1.1.1.0.now)
 one_prepare κs lent found again exit exit' first second = one_found_read _ _ _ _ first second
 

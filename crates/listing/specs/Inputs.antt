@@ -1,42 +1,39 @@
 -- What the program prints of the inputs that it read: 18 for the file, 18 for the text, or the listing. Assumes nothing.
-use Rattle.std.specs.Prelude.{ℕ, ◌≡◌, List, Bool, true, false, not, ◌||◌, ltb, length}
+use Rattle.std.specs.Prelude.{ℕ, ◌≡◌, List, Bool, true, false, not, ◌||◌, ltb, length, Result, Err}
 use Rattle.limits.specs.Limits.{most_file, most_text}
 use Rattle.refusals.specs.declared.Refusal.{Refusal}
+use Rattle.refusals.specs.declared.Refusal.TheVariants.{InputNotTaken}
 use Rattle.text.specs.declared.Asked.{Asked}
 use Rattle.text.specs.Reading.{Reads}
 use Rattle.pieces.specs.Pieces.{PieceWritten}
 use Rattle.lines.specs.Lines.{refused_line}
 use Rattle.finding.specs.declared.Found.{Found}
 use Rattle.listing.specs.Listing.{listing_of, Listed}
-use Rattle.finding.specs.Finding.{refused_found, FoundIn}
+use Rattle.finding.specs.Finding.{FoundIn}
 
 -- an input that could not be read, or is over its limit
 abbrev pub unread_input : Bool → ℕ → ℕ → Bool
 unread_input read bytes most = not read || ltb most bytes
-
--- 18 has place 0
-abbrev pub refusal18 : Refusal
-refusal18 = record { number = 18; place = 0; need = 0 }
 
 -- one of the two is not taken: the file is judged first, but 18 says the same of both
 abbrev pub unread_inputs : Bool → ℕ → Bool → ℕ → Bool
 unread_inputs taken file given text = unread_input taken file most_file || unread_input given text most_text
 
 -- what is found of inputs: 18 where one is not taken, and then the bits are as they were, or what the listing shows
-pub record FoundRead (unread : Bool) (file text before after : List ℕ) (found : Found) : Type 0 where
-  pub refused : unread ≡ true → (found ≡ refused_found refusal18) × (after ≡ before)
+pub record FoundRead (unread : Bool) (file text before after : List ℕ) (found : Result Found Refusal) : Type 0 where
+  pub refused : unread ≡ true → (found ≡ Err InputNotTaken) × (after ≡ before)
   pub listed : unread ≡ false → FoundIn file text before after found
 
 -- a piece of what is printed: the line of 18 where an input is not taken, or the listing
 abbrev pub ListedRead : Bool → List ℕ → List ℕ → ℕ → List ℕ → List ℕ → ℕ → Type 0
 ListedRead unread file text from before after answer =
     elim unread as (λ unread. Type 0)
-    [ true ↦ PieceWritten (refused_line refusal18) from before after answer | false ↦ Listed file text from before after answer ]
+    [ true ↦ PieceWritten (refused_line InputNotTaken) from before after answer | false ↦ Listed file text from before after answer ]
 
 -- how many bytes that has in all
 abbrev pub PrintLength : Bool → List ℕ → List ℕ → ℕ → Type 0
 PrintLength unread file text bytes =
     elim unread as (λ unread. Type 0) [
-      | true ↦ bytes ≡ length (refused_line refusal18)
-      | false ↦ (asked : Asked) × (Reads text asked × (bytes ≡ length (listing_of file asked)))
+      | true ↦ bytes ≡ length (refused_line InputNotTaken)
+      | false ↦ (asked : Result Asked Refusal) × (Reads text asked × (bytes ≡ length (listing_of file asked)))
     ]

@@ -6,13 +6,13 @@
 ghost use Rattle.std.specs.Prelude.{◌≡◌, length};
 ghost use Rattle.pieces.specs.Pieces.{PieceWritten};
 ghost use Rattle.listing.specs.Listing.{Listed};
-ghost use Rattle.listing.specs.Found.{Listable, found_lines};
-ghost use Rattle.listing.specs.Inputs.{unread_input, unread_inputs, refusal18, FoundRead, ListedRead};
+ghost use Rattle.listing.specs.Found.{FoundThere, Listable, accepted_lines, found_lines};
+ghost use Rattle.listing.specs.Inputs.{unread_input, unread_inputs, FoundRead, ListedRead};
 
-use answers::Refusal;
 use finding::Found;
 use limits::{MOST_BITS, MOST_FILE, MOST_TEXT};
 use lines::{head_line, refused_line};
+use refusals::Refusal;
 use sections::{row_lines, test_lines};
 
 // Writes a piece of what the program prints, of a file that was taken or not and a text that was given
@@ -52,15 +52,15 @@ pub fn prepare(
     given: bool,
     text: &[u8],
     bits: &mut [u8; MOST_BITS],
-) -> Found
+) -> Result<Found, Refusal>
     ensures { FoundRead (unread_inputs taken (length file.now) given (length text.now))
         file.now text.now bits.old bits.new result }
 {
     if unread(taken, file.len(), MOST_FILE) {
-        return finding::refused(unreadable());
+        return Err(Refusal::InputNotTaken);
     }
     if unread(given, text.len(), MOST_TEXT) {
-        return finding::refused(unreadable());
+        return Err(Refusal::InputNotTaken);
     }
     finding::find(file, text, bits)
 }
@@ -72,21 +72,11 @@ pub fn unread(read: bool, length: usize, most: usize) -> bool
     if read { most < length } else { true }
 }
 
-fn unreadable() -> Refusal
-    ensures { result ≡ refusal18 }
-{
-    Refusal {
-        number: 18,
-        place: 0,
-        need: 0,
-    }
-}
-
 // Writes a piece of the listing of what was found: its bytes from a place on, as many as `out` has room
 // for. Answers how many bytes the whole listing has.
 pub fn write_found(
     file: &[u8],
-    found: Found,
+    found: Result<Found, Refusal>,
     bits: &[u8; MOST_BITS],
     from: usize,
     out: &mut [u8],
@@ -94,10 +84,23 @@ pub fn write_found(
     requires { Listable file.now found }
     ensures { PieceWritten (found_lines file.now bits.now found) from out.old out.new result }
 {
-    let refusal = found.refusal;
-    if refusal.number != 0 {
-        return refused_line(out, from, refusal);
+    match found {
+        Ok(found) => write_accepted(file, found, bits, from, out),
+        Err(refusal) => refused_line(out, from, refusal),
     }
+}
+
+// The listing of what was found where nothing is refused: the first line, the tests, the rows.
+fn write_accepted(
+    file: &[u8],
+    found: Found,
+    bits: &[u8; MOST_BITS],
+    from: usize,
+    out: &mut [u8],
+) -> usize
+    requires { FoundThere file.now found }
+    ensures { PieceWritten (accepted_lines file.now bits.now found) from out.old out.new result }
+{
     let shape = found.shape;
     let query = found.query;
     let tests = query.tests;

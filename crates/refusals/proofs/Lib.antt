@@ -1,0 +1,2 @@
+-- What is known of the numbers of refusals.
+pub mod Numbered
