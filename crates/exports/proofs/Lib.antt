@@ -1,3 +1,2 @@
 -- The laws of the exported calls.
-pub mod Scanning
 pub mod SingleReply

@@ -8,6 +8,8 @@ use mathlib.Core.Path.{◌≡◌, sym, ap, ◌∙◌}
 use mathlib.Core.List.{List}
 use lib.ListN.{length}
 use Rattle.basis.proofs.SingleReply.{single_reply as alone}
+use Rattle.std.specs.Prelude.{Result}
+use Rattle.refusals.specs.declared.Refusal.{Refusal}
 use Rattle.text.specs.declared.Asked.{Asked}
 use Rattle.text.proofs.SingleReply.{single_reply}
 use Rattle.replies.specs.Replies.{read_reply, scan_reply}
@@ -28,8 +30,8 @@ pub one_scan : (file text before after left reply other : List ℕ) → ScanRepl
     ScanReplied file text before left other → (reply ≡ other) × (after ≡ left)
 one_scan file text before after left reply other first second =
     let same = single_reply first.1.0 second.1.0 in (
-      first.1.1.0 ∙ ap (λ (asked : Asked). scan_reply (scan_of file asked (length before))) same ∙ sym second.1.1.0,
-      first.1.1.1 ∙ ap (λ (asked : Asked). result_of file asked before) same ∙ sym second.1.1.1,
+      first.1.1.0 ∙ ap (λ (asked : Result Asked Refusal). scan_reply (scan_of file asked (length before))) same ∙ sym second.1.1.0,
+      first.1.1.1 ∙ ap (λ (asked : Result Asked Refusal). result_of file asked before) same ∙ sym second.1.1.1,
     )
 
 pub one_bsl_open : (κs : _) (lent : _) (r : _) (exit exit' : _) → Opens κs lent r exit → Opens κs lent r exit' →

@@ -9,9 +9,10 @@ ghost use Rattle.widths.specs.Widths as measuring;
 ghost use Rattle.writer.specs.Writing as writing;
 ghost use Rattle.lookup.specs.LookingUp as looking;
 ghost use Rattle.rows.specs.RowList as listing;
-ghost use Rattle.exports.specs.Asked.{ReadReplied, ScanReplied};
+ghost use Rattle.exports.specs.Asked.{ReadReplied, ScanReplied, ScannedAsAsked};
 
-use limits::{ANSWER_NUMBERS, MOST_TESTS, OPEN_NUMBERS, READ_NUMBERS, SCAN_NUMBERS};
+use limits::{ANSWER_NUMBERS, OPEN_NUMBERS, READ_NUMBERS, SCAN_NUMBERS};
+use refusals::Refusal;
 use replies::{answer_reply, opened_reply, read_reply, scanned_reply};
 use scan::Scanned;
 
@@ -53,30 +54,23 @@ pub fn bsl_read(text: &[u8], reply: &mut [u64; READ_NUMBERS])
     ensures { ReadReplied text.now reply.new }
 {
     let asked = text::read(text);
-    let refusal = asked.refusal;
-    let query = asked.query;
-    let tests = query.tests;
-    *reply = read_reply(refusal, asked.size, query.count, tests);
+    *reply = read_reply(asked);
 }
 
 // Scans a file by a query's text. Values: matches, total, then 16 counts.
 pub fn bsl_scan(file: &[u8], text: &[u8], out: &mut [u8], reply: &mut [u64; SCAN_NUMBERS])
     ensures { ScanReplied file.now text.now out.old out.new reply.new }
 {
-    let asked = text::read(text);
-    let refusal = asked.refusal;
-    if refusal.number != 0 {
-        *reply = scanned_reply(Scanned {
-            refusal,
-            matches: 0,
-            counts: [0; MOST_TESTS],
-            total: 0,
-        });
-        return;
-    }
-    let query = asked.query;
-    let scanned = scan::scan(file, asked.size, query, out);
+    let scanned = scan_asked(file, text, out);
     *reply = scanned_reply(scanned);
+}
+
+// Scans a file by what a text asks; a text that is refused leaves the result as it was.
+fn scan_asked(file: &[u8], text: &[u8], out: &mut [u8]) -> Result<Scanned, Refusal>
+    ensures { ScannedAsAsked file.now text.now out.old out.new result }
+{
+    let asked = text::read(text)?;
+    scan::scan(file, asked.size, asked.query, out)
 }
 
 // Lists the rows whose bit is set. Value: how many.

@@ -1,5 +1,5 @@
 -- A refusal in numbers: its number, its place and its need, each of the last two 0 where it has none. Assumes nothing.
-use Rattle.std.specs.Prelude.{ℕ, List, [], ◌∷◌}
+use Rattle.std.specs.Prelude.{ℕ, List, [], ◌∷◌, Result, Ok, Err}
 use Rattle.refusals.specs.declared.Refusal.{Refusal}
 use Rattle.refusals.specs.declared.Refusal.TheVariants.{NoRegister, OtherVersion, TooManyRows, UnfitColumnCount, DirectoryMisplaced}
 use Rattle.refusals.specs.declared.Refusal.TheVariants.{UnfitColumn, BodyMisfit, CodeTooLarge, UnfitCodeCount, OutputTooShort}
@@ -42,3 +42,8 @@ need_of other = 0
 -- what is shown of a refusal: number, place and need
 abbrev pub numbers_of : Refusal → List ℕ
 numbers_of refusal = number_of refusal ∷ place_of refusal ∷ need_of refusal ∷ []
+
+-- what is shown of a reply before its values: 0 thrice where nothing is refused
+abbrev pub told_of : {A : Type 0} → Result A Refusal → List ℕ
+told_of (Ok value) = 0 ∷ 0 ∷ 0 ∷ []
+told_of (Err refusal) = numbers_of refusal

@@ -1,19 +1,9 @@
--- `exports::bsl_scan` meets its contract: the text is read, and what it asks is scanned. Assumes nothing.
-use Rattle.exports.proofs.Scanning.{text_refused, text_read}
+-- `exports::bsl_scan` meets its contract: what the text asks is scanned, and the scan is the reply. Assumes nothing.
+use mathlib.Core.Path.{ap, ◌∙◌}
+use Rattle.replies.specs.Replies.{scan_reply}
 use Rattle.exports.proofs.bsl_scan.Goals as goal
-
-pub returns-then-refusal-ne0 : goal.returns-then-refusal-ne0
-returns-then-refusal-ne0 c = (
-  c.read-asked.result,
-  (c.read-asked.ensures, text_refused _ c.read-asked.result _ c.if-refusal-ne0.true _ c.scanned_reply.ensures),
-)
 
 pub returns : goal.returns
 returns c =
-    let told = c.scan-scanned.ensures in (
-      c.read-asked.result,
-      (
-        c.read-asked.ensures,
-        text_read _ c.read-asked.result _ c.if-refusal-ne0.false c.scan-scanned.result _ _ told.answer c.scanned_reply-2.ensures told.left,
-      ),
-    )
+    let told = c.scan_asked-scanned.ensures in
+    (told.0, (told.1.0, (c.scanned_reply.ensures ∙ ap scan_reply told.1.1.0, told.1.1.1)))

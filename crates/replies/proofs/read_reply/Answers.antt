@@ -1,39 +1,9 @@
--- `replies::read_reply` meets its contract: the slots stand behind the five numbers. Assumes nothing.
-use Prim.Native.Nat.{ℕ}
-use native.Mathlib.Omega.{arith}
-use mathlib.Core.Path.{◌≡◌, refl, ap, ◌∙◌}
-use mathlib.Core.List.{List, [], ◌∷◌, ◌++◌, map, flatten}
-use lib.ListN.{length, get_or}
-use borrow.Author.Rules.{rules}
-use Rattle.limits.specs.Limits.{most_tests}
-use Rattle.basis.specs.Lists.{below}
-use Rattle.basis.proofs.Buffers.{filled_nothing}
-use Rattle.query.specs.Tests.{empty_slot}
+-- `replies::read_reply` meets its contract: what is asked, or the refusal, whose slots are all 0. Assumes nothing.
+use mathlib.Core.List.{flatten}
+use mathlib.Core.Path.{◌∙◌}
 use Rattle.replies.specs.Replies.{read_reply}
-use Rattle.replies.proofs.Behind.{behind, slot_at, each_slot, slot_more}
 use Rattle.replies.proofs.read_reply.Goals as goal
 
-pub loop-t-init : goal.loop-t-init
-unfolding flatten
-loop-t-init c = (omega arith, (refl, filled_nothing _ _))
-
-pub loop-t-preserved : goal.loop-t-preserved
-loop-t-preserved c =
-    let turn = c.loop-t in
-    let tests = c.args.tests in
-    let slot : slot_at tests turn.t ≡ (get_or tests turn.t empty_slot).column ∷ c.kind_of.result ∷ c.literal_of.result ∷ [] =
-    rw (c.kind_of.ensures, c.literal_of.ensures) in
-    (omega arith, (turn.invariant.1.0, slot_more tests turn.t _ _ _ _ slot turn.invariant.1.1 (omega arith)))
-
-pub returns : goal.returns
+pub returns-in-Err : goal.returns-in-Err
 unfolding read_reply flatten
-returns c =
-    let a = c.args in
-    let turn = c.loop-t in
-    let tests = a.tests in
-    let long : length tests ≡ most_tests = search rules in
-    let all : turn.t ≡ most_tests = omega arith in
-    let filled = rw all at turn.invariant.1.1 in
-    let front : List ℕ = a.refusal.number ∷ a.refusal.place ∷ a.refusal.need ∷ a.size ∷ a.count ∷ [] in
-    behind _ 5 (flatten (map (slot_at tests) (below most_tests))) filled turn.invariant.1.0
-    ∙ ap (λ (numbers : List ℕ). front ++ numbers) (each_slot tests long)
+returns-in-Err c = rw c.in-Err.is c.refused_reply.ensures
