@@ -24,14 +24,14 @@ pub fn unfit_width(width: u8) -> bool
 pub fn slices_of(width: u8) -> usize
     ensures { result ≡ slices_of width }
 {
-    (width as usize + 7) / 8
+    (usize::from(width) + 7) / 8
 }
 
 // The number by which a stored number exceeds its code: 2 to the power of the pad.
 pub fn unit_of(width: u8) -> u64
     ensures { result ≡ 2 ^ pad_of width }
 {
-    let pad = 8 * slices_of(width) - width as usize;
+    let pad = 8 * slices_of(width) - usize::from(width);
     1 << pad
 }
 
@@ -40,7 +40,7 @@ pub fn too_large(width: u8, code: u64) -> bool
     requires { width ≤ widest }
     ensures { result ≡ too_large width code }
 {
-    let limit = 1 << (width as u64);
+    let limit = 1 << width;
     !(code < limit)
 }
 

@@ -1,7 +1,7 @@
 -- `codes::byte_of` meets its contract: the stored number fits, and shifted by the bytes that follow it ends in the wanted byte.
 -- Assumes nothing.
-use Prim.Native.Nat.{ℕ, ◌/◌, ◌%◌, ◌^◌, ◌≤◌}
-use mathlib.Core.Path.{sym, ap, ◌∙◌}
+use Prim.Native.Nat.{◌^◌, ◌≤◌}
+use mathlib.Core.Path.{sym}
 use native.Mathlib.Omega.{arith}
 use native.Mathlib.Nat.{le_of_lt, lt_of_le_of_lt, mul-le-mul}
 use lib.Dec.{lit<}

@@ -1,7 +1,7 @@
 -- What the loop of `join` keeps: the number so far is that of the bytes passed. Assumes nothing.
-use Prim.Native.Nat.{◌-◌, ◌^◌, ◌≤◌, ◌<◌}
+use Prim.Native.Nat.{◌^◌, ◌<◌}
 use mathlib.Core.Path.{◌≡◌}
-use lib.ListN.{length, take}
+use lib.ListN.{take}
 use Rattle.codes.specs.Bytes.{big}
 use Rattle.codes.proofs.join.Given as goal
 
