@@ -15,14 +15,12 @@ use limits::{LONGEST_PERIOD, MOST_COLUMNS};
 pub fn first_unfit(widths: &[u8]) -> usize
     ensures { result ≡ first_unfit_width widths.now }
 {
-    let mut column = 0;
-    while column < widths.len() {
-        if codes::unfit_width(widths[column]) {
+    for (column, width) in widths.iter().enumerate() {
+        if codes::unfit_width(*width) {
             return column;
         }
-        column = column + 1;
     }
-    column
+    widths.len()
 }
 
 // The lowest index of a code that is too large for its column, or the number of codes. Rows that are
@@ -33,13 +31,12 @@ pub fn first_too_large(rows: usize, widths: &[u8], codes: &[u64]) -> usize
 {
     let columns = widths.len();
     let limits = limits_of(widths);
-    let mut row = rows_below(&limits, columns, rows, codes);
-    while row < rows {
+    let known = rows_below(&limits, columns, rows, codes);
+    for row in known..rows {
         let column = first_at_limit(&limits, columns, codes, row * columns);
         if column < columns {
             return row * columns + column;
         }
-        row = row + 1;
     }
     codes.len()
 }
@@ -50,11 +47,8 @@ fn limits_of(widths: &[u8]) -> [u64; MOST_COLUMNS]
     ensures { Holds (λ column. 2 ^ width_of widths.now column) (length widths.now) result }
 {
     let mut limits = [0u64; MOST_COLUMNS];
-    let mut column = 0;
-    while column < widths.len() {
-        let width = widths[column];
-        limits[column] = 1 << width;
-        column = column + 1;
+    for (column, width) in widths.iter().enumerate() {
+        limits[column] = 1 << *width;
     }
     limits
 }
@@ -69,12 +63,10 @@ fn rows_below(limits: &[u64; MOST_COLUMNS], columns: usize, rows: usize, codes: 
     let period = 8 * columns;
     let eights = rows / 8;
     let joined = joined_codes(codes, period, eights);
-    let mut place = 0;
-    while place < period {
+    for place in 0..period {
         if limits[place % columns] <= joined[place] {
             return 0;
         }
-        place = place + 1;
     }
     8 * eights
 }
@@ -85,10 +77,8 @@ fn joined_codes(codes: &[u64], period: usize, periods: usize) -> [u64; LONGEST_P
     ensures { Covers codes.now period periods result }
 {
     let mut joined = [0u64; LONGEST_PERIOD];
-    let mut i = 0;
-    while i < periods {
+    for i in 0..periods {
         join_codes(codes, i * period, period, &mut joined);
-        i = i + 1;
     }
     joined
 }
@@ -98,10 +88,8 @@ fn join_codes(codes: &[u64], at: usize, n: usize, joined: &mut [u64; LONGEST_PER
     requires { CodesThere at n codes.now joined.old }
     ensures { Raised codes.now at n joined.old joined.new }
 {
-    let mut k = 0;
-    while k < n {
-        joined[k] = joined[k] | codes[at + k];
-        k = k + 1;
+    for k in 0..n {
+        joined[k] |= codes[at + k];
     }
 }
 
@@ -112,12 +100,10 @@ fn first_at_limit(limits: &[u64; MOST_COLUMNS], columns: usize, codes: &[u64], a
     ensures { result ≡ first_place (λ column. not (ltb (get_or codes.now (at + column) 0)
         (get_or limits.now column 0))) columns }
 {
-    let mut column = 0;
-    while column < columns {
+    for column in 0..columns {
         if limits[column] <= codes[at + column] {
             return column;
         }
-        column = column + 1;
     }
-    column
+    columns
 }

@@ -1,5 +1,5 @@
--- What the loop of `first_too_large` keeps, and what each turn makes less.
-use Prim.Native.Nat.{ℕ, ◌-◌, ◌*◌, ◌%◌, ◌≤◌, ◌<◌}
+-- What the loop of `first_too_large` keeps. Assumes nothing.
+use Prim.Native.Nat.{ℕ, ◌*◌, ◌%◌, ◌<◌}
 use mathlib.Core.Path.{◌≡◌}
 use mathlib.Core.List.{List}
 use mathlib.Core.Bool.{Bool, false}
@@ -14,7 +14,4 @@ too_large_at widths codes i = too_large (width_of widths (i % length widths)) (g
 
 abbrev pub invariant-loop-row : goal.invariant-loop-row
 invariant-loop-row l =
-    (l.row ≤ l.rows) × ((earlier : ℕ) → earlier < l.row * length l.widths → too_large_at l.widths l.codes earlier ≡ false)
-
-abbrev pub decreases-loop-row : goal.decreases-loop-row
-decreases-loop-row l = l.rows - l.row
+    ((earlier : ℕ) → earlier < l.row * length l.widths → too_large_at l.widths l.codes earlier ≡ false)
