@@ -4,41 +4,35 @@
 #![tactic(auto)]
 
 ghost use Rattle.std.specs.Prelude.{◌≡◌, not, ◌+◌, ◌^◌, ltb, length, get_or};
-ghost use Rattle.basis.specs.Places.{first_place};
-ghost use Rattle.table.specs.Table.{width_of, FitWidths, FullTable, first_unfit_width, first_too_large};
+ghost use Rattle.basis.specs.Places.{first_found};
+ghost use Rattle.table.specs.Table.{width_of, FitWidths, FullTable, unfit_at, too_large_at};
 ghost use Rattle.table.specs.ManyAtOnce.{FullRows, RowThere, PeriodsThere, CodesThere};
 ghost use Rattle.table.specs.ManyAtOnce.{RowsBelow, Covers, Raised, Holds};
 
 use limits::{LONGEST_PERIOD, MOST_COLUMNS};
 
-// The lowest column whose width fits none, or the number of columns.
-pub fn first_unfit(widths: &[u8]) -> usize
-    ensures { result ≡ first_unfit_width widths.now }
+// The lowest column whose width fits none.
+pub fn first_unfit(widths: &[u8]) -> Option<usize>
+    ensures { result ≡ first_found (unfit_at widths.now) (length widths.now) }
 {
-    for (column, width) in widths.iter().enumerate() {
-        if codes::unfit_width(*width) {
-            return column;
-        }
-    }
-    widths.len()
+    widths.iter().position(|width| codes::unfit_width(*width))
 }
 
-// The lowest index of a code that is too large for its column, or the number of codes. Rows that are
-// known to be below their limits at once are passed over; the others are gone through one by one.
-pub fn first_too_large(rows: usize, widths: &[u8], codes: &[u64]) -> usize
+// The lowest index of a code that is too large for its column. Rows that are known to be below their
+// limits at once are passed over; the others are gone through one by one.
+pub fn first_too_large(rows: usize, widths: &[u8], codes: &[u64]) -> Option<usize>
     requires { FullTable rows widths.now codes.now }
-    ensures { result ≡ first_too_large widths.now codes.now }
+    ensures { result ≡ first_found (too_large_at widths.now codes.now) (length codes.now) }
 {
     let columns = widths.len();
     let limits = limits_of(widths);
     let known = rows_below(&limits, columns, rows, codes);
     for row in known..rows {
-        let column = first_at_limit(&limits, columns, codes, row * columns);
-        if column < columns {
-            return row * columns + column;
+        if let Some(column) = first_at_limit(&limits, columns, codes, row * columns) {
+            return Some(row * columns + column);
         }
     }
-    codes.len()
+    None
 }
 
 // The limit of each column: 2 to the power of its width.
@@ -93,17 +87,21 @@ fn join_codes(codes: &[u64], at: usize, n: usize, joined: &mut [u64; LONGEST_PER
     }
 }
 
-// The lowest column whose code, in the row that starts at a place, is not below its limit, or the
-// number of columns.
-fn first_at_limit(limits: &[u64; MOST_COLUMNS], columns: usize, codes: &[u64], at: usize) -> usize
+// The lowest column whose code, in the row that starts at a place, is not below its limit.
+fn first_at_limit(
+    limits: &[u64; MOST_COLUMNS],
+    columns: usize,
+    codes: &[u64],
+    at: usize,
+) -> Option<usize>
     requires { RowThere columns at codes.now }
-    ensures { result ≡ first_place (λ column. not (ltb (get_or codes.now (at + column) 0)
+    ensures { result ≡ first_found (λ column. not (ltb (get_or codes.now (at + column) 0)
         (get_or limits.now column 0))) columns }
 {
     for column in 0..columns {
         if limits[column] <= codes[at + column] {
-            return column;
+            return Some(column);
         }
     }
-    columns
+    None
 }

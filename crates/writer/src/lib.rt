@@ -27,16 +27,14 @@ pub fn write(rows: usize, widths: &[u8], codes: &[u64], out: &mut [u8]) -> Answe
     if MOST_COLUMNS < columns {
         return refused(4, 0, 0);
     }
-    let unfit = table::first_unfit(widths);
-    if unfit < columns {
-        return refused(6, unfit, 0);
+    if let Some(column) = table::first_unfit(widths) {
+        return refused(6, column, 0);
     }
     if codes.len() != rows * columns {
         return refused(9, 0, 0);
     }
-    let large = table::first_too_large(rows, widths, codes);
-    if large < codes.len() {
-        return refused(8, large, 0);
+    if let Some(index) = table::first_too_large(rows, widths, codes) {
+        return refused(8, index, 0);
     }
     let need = filing::file_length(rows, widths);
     if out.len() < need {

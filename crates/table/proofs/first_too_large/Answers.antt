@@ -9,13 +9,12 @@ use mathlib.Core.Bool.{not}
 use lib.Arith.{digits_mod}
 use lib.Dec.{ltb}
 use lib.ListN.{length, get_or}
-use Rattle.basis.proofs.Places.{first_is_none}
+use Rattle.basis.proofs.Places.{found_none_is, found_at}
 use Rattle.codes.specs.Width.{too_large}
-use Rattle.table.specs.Table.{width_of}
+use Rattle.table.specs.Table.{width_of, too_large_at}
 use Rattle.table.specs.ManyAtOnce.{Holds}
 use Rattle.table.proofs.AtOnce.{below_fits}
-use Rattle.table.proofs.PartByPart.{none_in_part, first_in_part}
-use Rattle.table.proofs.first_too_large.Invariants.{too_large_at}
+use Rattle.table.proofs.PartByPart.{none_in_part, found_in_part}
 use Rattle.table.proofs.first_too_large.Goals as goal
 use Rattle.table.proofs.first_too_large.Goals.{In-loop-row}
 
@@ -55,13 +54,12 @@ pub overflow_mul-row : goal.overflow_mul-row
 overflow_mul-row c = omega (arith, row_within (goal.at.overflow_mul-row c).In-loop-row)
 
 pub overflow_add-result : goal.overflow_add-result
-overflow_add-result c = omega (arith, row_within (goal.at.overflow_add-result c).In-loop-row)
+overflow_add-result c = omega (arith, row_within (goal.at.overflow_add-result c).In-loop-row, found_at _ _ _ c.in-Some.ensures)
 
-pub returns-then-column-columns : goal.returns-then-column-columns
-returns-then-column-columns c =
-    let turn = (goal.at.returns-then-column-columns c).In-loop-row in
-    let found = c.first_at_limit-column.ensures in
-    rw found (sym (first_in_part _ _ _ _ (by turn) turn.loop-row.invariant _ (row_within turn) (rw found at c.if-column-columns.true)))
+pub returns-in-Some : goal.returns-in-Some
+returns-in-Some c =
+    let turn = (goal.at.returns-in-Some c).In-loop-row in
+    sym (found_in_part _ _ _ _ (by turn) turn.loop-row.invariant _ _ (row_within turn) c.in-Some.ensures)
 
 pub loop-row-preserved : goal.loop-row-preserved
 loop-row-preserved c =
@@ -69,11 +67,10 @@ loop-row-preserved c =
     let row = turn.loop-row.row in
     let columns = length turn.args.widths.now in
     let next : (row + 1) * columns ≡ row * columns + columns = omega arith in
-    let nowhere = rw c.first_at_limit-column.ensures at c.if-column-columns.false in
-    rw next (none_in_part _ _ _ _ (by turn) turn.loop-row.invariant nowhere)
+    rw next (none_in_part _ _ _ _ (by turn) turn.loop-row.invariant c.in_default.ensures)
 
 pub returns : goal.returns
 returns c =
     let turn = c.loop-row in
     let end : turn.row ≡ c.args.rows = omega arith in
-    sym (first_is_none _ _ (λ k h. turn.invariant k (rw (end, ← c.requires.full) h)))
+    sym (found_none_is _ _ (λ k h. turn.invariant k (rw (end, ← c.requires.full) h)))
