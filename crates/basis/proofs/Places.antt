@@ -4,12 +4,22 @@
 --   none_before_first  and at no place before
 --   first_is           a place at which the test holds, and at none before, is the first
 --   first_is_none      where the test holds at no place, the first is past the last
+--   found_is, found_none_is    so that place is found, and nothing is
+--   found_at, found_nowhere    what is found is the first place; where nothing is, the first is past the last
+--   found_in_list              a place in a list that is the first is what is found
 use Prim.Native.Nat.{ℕ, zero, suc, ◌≤◌, ◌<◌}
 use native.Mathlib.Omega.{arith}
-use mathlib.Core.Path.{◌≡◌, refl, ap, ◌∙◌}
+use mathlib.Core.Path.{◌≡◌, refl, sym, ap, ◌∙◌}
+use mathlib.Core.List.{List}
 use mathlib.Core.Logic.{◌⊎◌, inl, inr}
 use mathlib.Core.Bool.{Bool, true, false}
-use Rattle.basis.specs.Places.{first_place}
+use lib.Dec.{ltb}
+use lib.ListN.{length, get_or}
+use borrow.Author.Tests.{lt-ltb, le-ltb, ltb-true, ltb-false}
+use Rattle.std.specs.Prelude.{Option, Some, None, MatchOption}
+use Rattle.std.specs.List.{AllWithin, HoldsAt}
+use Rattle.std.proofs.lemmas.Option.{same_Some, none-some}
+use Rattle.basis.specs.Places.{first_place, first_found}
 use Rattle.basis.proofs.Truth.{either}
 
 -- a step: the first place is 0, or one more than the first among the places after it
@@ -71,3 +81,38 @@ unfolding first_place
 first_is_none test zero none = refl
 first_is_none test (suc n) none =
     goes_on test n (none 0 (omega arith)) ∙ ap suc (first_is_none (λ p. test (suc p)) n (λ p l. none (suc p) (omega arith)))
+
+pub found_is : (test : ℕ → Bool) (n place : ℕ) → place < n → test place ≡ true →
+    ((earlier : ℕ) → earlier < place → test earlier ≡ false) → first_found test n ≡ Some place
+unfolding first_found
+found_is test n place inside yes' none = rw (first_is test n place inside yes' none, lt-ltb place n inside)
+
+pub found_none_is : (test : ℕ → Bool) (n : ℕ) → ((place : ℕ) → place < n → test place ≡ false) → first_found test n ≡ None
+unfolding first_found
+found_none_is test n none = rw (first_is_none test n none, le-ltb n n (omega arith))
+
+pub found_at : (test : ℕ → Bool) (n place : ℕ) → Some place ≡ first_found test n → (first_place test n ≡ place) × (place < n)
+unfolding first_found
+found_at test n place found = go (either (ltb (first_place test n) n))
+  where
+    go : (ltb (first_place test n) n ≡ true) ⊎ (ltb (first_place test n) n ≡ false) → (first_place test n ≡ place) × (place < n)
+    go (inl h) =
+        let same : first_place test n ≡ place = same_Some _ _ (sym (rw h at found)) in
+        (same, omega (arith, ltb-true (first_place test n) n h))
+    go (inr h) = absurd (none-some place (sym (rw h at found)))
+
+pub found_nowhere : (test : ℕ → Bool) (n : ℕ) → None ≡ first_found test n → n ≤ first_place test n
+unfolding first_found
+found_nowhere test n found = go (either (ltb (first_place test n) n))
+  where
+    go : (ltb (first_place test n) n ≡ true) ⊎ (ltb (first_place test n) n ≡ false) → n ≤ first_place test n
+    go (inl h) = absurd (none-some (first_place test n) (rw h at found))
+    go (inr h) = ltb-false (first_place test n) n h
+
+pub found_in_list : (p : ℕ → Bool) (xs : List ℕ) (r : Option ℕ) →
+    MatchOption r (AllWithin (λ x. p x ≡ false) xs 0 (length xs))
+    (λ i. (i < length xs) × HoldsAt (λ x. p x ≡ true) xs i × AllWithin (λ x. p x ≡ false) xs 0 i) →
+    r ≡ first_found (λ i. p (get_or xs i 0)) (length xs)
+found_in_list p xs None none = sym (found_none_is _ (length xs) (λ k h. none k 0 (omega arith) h))
+found_in_list p xs (Some i) (inside, holds, none) =
+    sym (found_is _ (length xs) i inside (holds 0) (λ k h. none k 0 (omega arith) h))

@@ -24,14 +24,14 @@ pub fn unfit_width(width: u8) -> bool
 pub fn slices_of(width: u8) -> usize
     ensures { result ≡ slices_of width }
 {
-    (width as usize + 7) / 8
+    (usize::from(width) + 7) / 8
 }
 
 // The number by which a stored number exceeds its code: 2 to the power of the pad.
 pub fn unit_of(width: u8) -> u64
     ensures { result ≡ 2 ^ pad_of width }
 {
-    let pad = 8 * slices_of(width) - width as usize;
+    let pad = 8 * slices_of(width) - usize::from(width);
     1 << pad
 }
 
@@ -40,7 +40,7 @@ pub fn too_large(width: u8, code: u64) -> bool
     requires { width ≤ widest }
     ensures { result ≡ too_large width code }
 {
-    let limit = 1 << (width as u64);
+    let limit = 1 << width;
     !(code < limit)
 }
 
@@ -49,13 +49,9 @@ pub fn byte_of(width: u8, code: u64, slice: usize) -> u8
     requires { (width ≤ widest) × (code < 2 ^ width) × (slice < slices_of width) }
     ensures { result ≡ byte_of width code slice }
 {
-    let mut rest = code * unit_of(width);
-    let mut after = slices_of(width) - 1 - slice;
-    while 0 < after {
-        rest = rest / 256;
-        after = after - 1;
-    }
-    (rest % 256) as u8
+    let stored = code * unit_of(width);
+    let after = slices_of(width) - 1 - slice;
+    ((stored >> (8 * after)) % 256) as u8
 }
 
 // The code of a row's bytes, slice 1 first. Pad bits are ignored.
@@ -64,10 +60,8 @@ pub fn join(width: u8, bytes: &[u8]) -> u64
     ensures { result ≡ joined width bytes.now }
 {
     let mut number: u64 = 0;
-    let mut i = 0;
-    while i < bytes.len() {
-        number = number * 256 + numbers::wide64(bytes[i]);
-        i = i + 1;
+    for byte in bytes {
+        number = number * 256 + u64::from(*byte);
     }
     number / unit_of(width)
 }

@@ -30,10 +30,8 @@ pub fn number_of(bytes: &[u8]) -> usize
     ensures { OfBytes bytes.now result }
 {
     let mut number: usize = 0;
-    let mut left = bytes.len();
-    while 0 < left {
-        left = left - 1;
-        number = number * 256 + wide(bytes[left]);
+    for byte in bytes.iter().rev() {
+        number = number * 256 + usize::from(*byte);
     }
     number
 }

@@ -1,5 +1,5 @@
 -- A register as it is handed over: the widths of its columns, and its codes row after row. Assumes nothing.
-use Rattle.std.specs.Prelude.{ℕ, ◌+◌, ◌*◌, ◌%◌, ◌≤◌, ◌<◌, ◌≡◌, List, false, length, get_or}
+use Rattle.std.specs.Prelude.{ℕ, ◌+◌, ◌*◌, ◌%◌, ◌≤◌, ◌<◌, ◌≡◌, List, Bool, false, length, get_or}
 use Rattle.basis.specs.Places.{first_place}
 use Rattle.codes.specs.Width.{unfit_width, too_large}
 use Rattle.limits.specs.Limits.{most_rows, most_columns}
@@ -12,14 +12,21 @@ width_of widths column = get_or widths column 0
 abbrev pub code_of : List ℕ → List ℕ → ℕ → ℕ → ℕ
 code_of widths codes row column = get_or codes (row * length widths + column) 0
 
+-- whether the width of a column fits no column
+abbrev pub unfit_at : List ℕ → ℕ → Bool
+unfit_at widths column = unfit_width (width_of widths column)
+
+-- whether the code at an index is not below 2^k, k being the width of its column
+abbrev pub too_large_at : List ℕ → List ℕ → ℕ → Bool
+too_large_at widths codes i = too_large (width_of widths (i % length widths)) (get_or codes i 0)
+
 -- the lowest column whose width fits no column
 abbrev pub first_unfit_width : List ℕ → ℕ
-first_unfit_width widths = first_place (λ column. unfit_width (width_of widths column)) (length widths)
+first_unfit_width widths = first_place (unfit_at widths) (length widths)
 
--- the lowest index of a code that is not below 2^k, k being the width of its column
+-- the lowest index of a code that is too large
 abbrev pub first_too_large : List ℕ → List ℕ → ℕ
-first_too_large widths codes =
-    first_place (λ i. too_large (width_of widths (i % length widths)) (get_or codes i 0)) (length codes)
+first_too_large widths codes = first_place (too_large_at widths codes) (length codes)
 
 -- widths that a register may have
 pub record FitWidths (widths : List ℕ) : Type 0 where

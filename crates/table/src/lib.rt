@@ -4,44 +4,35 @@
 #![tactic(auto)]
 
 ghost use Rattle.std.specs.Prelude.{◌≡◌, not, ◌+◌, ◌^◌, ltb, length, get_or};
-ghost use Rattle.basis.specs.Places.{first_place};
-ghost use Rattle.table.specs.Table.{width_of, FitWidths, FullTable, first_unfit_width, first_too_large};
+ghost use Rattle.basis.specs.Places.{first_found};
+ghost use Rattle.table.specs.Table.{width_of, FitWidths, FullTable, unfit_at, too_large_at};
 ghost use Rattle.table.specs.ManyAtOnce.{FullRows, RowThere, PeriodsThere, CodesThere};
 ghost use Rattle.table.specs.ManyAtOnce.{RowsBelow, Covers, Raised, Holds};
 
 use limits::{LONGEST_PERIOD, MOST_COLUMNS};
 
-// The lowest column whose width fits none, or the number of columns.
-pub fn first_unfit(widths: &[u8]) -> usize
-    ensures { result ≡ first_unfit_width widths.now }
+// The lowest column whose width fits none.
+pub fn first_unfit(widths: &[u8]) -> Option<usize>
+    ensures { result ≡ first_found (unfit_at widths.now) (length widths.now) }
 {
-    let mut column = 0;
-    while column < widths.len() {
-        if codes::unfit_width(widths[column]) {
-            return column;
-        }
-        column = column + 1;
-    }
-    column
+    widths.iter().position(|width| codes::unfit_width(*width))
 }
 
-// The lowest index of a code that is too large for its column, or the number of codes. Rows that are
-// known to be below their limits at once are passed over; the others are gone through one by one.
-pub fn first_too_large(rows: usize, widths: &[u8], codes: &[u64]) -> usize
+// The lowest index of a code that is too large for its column. Rows that are known to be below their
+// limits at once are passed over; the others are gone through one by one.
+pub fn first_too_large(rows: usize, widths: &[u8], codes: &[u64]) -> Option<usize>
     requires { FullTable rows widths.now codes.now }
-    ensures { result ≡ first_too_large widths.now codes.now }
+    ensures { result ≡ first_found (too_large_at widths.now codes.now) (length codes.now) }
 {
     let columns = widths.len();
     let limits = limits_of(widths);
-    let mut row = rows_below(&limits, columns, rows, codes);
-    while row < rows {
-        let column = first_at_limit(&limits, columns, codes, row * columns);
-        if column < columns {
-            return row * columns + column;
+    let known = rows_below(&limits, columns, rows, codes);
+    for row in known..rows {
+        if let Some(column) = first_at_limit(&limits, columns, codes, row * columns) {
+            return Some(row * columns + column);
         }
-        row = row + 1;
     }
-    codes.len()
+    None
 }
 
 // The limit of each column: 2 to the power of its width.
@@ -50,11 +41,8 @@ fn limits_of(widths: &[u8]) -> [u64; MOST_COLUMNS]
     ensures { Holds (λ column. 2 ^ width_of widths.now column) (length widths.now) result }
 {
     let mut limits = [0u64; MOST_COLUMNS];
-    let mut column = 0;
-    while column < widths.len() {
-        let width = widths[column];
-        limits[column] = 1 << width;
-        column = column + 1;
+    for (column, width) in widths.iter().enumerate() {
+        limits[column] = 1 << *width;
     }
     limits
 }
@@ -69,12 +57,10 @@ fn rows_below(limits: &[u64; MOST_COLUMNS], columns: usize, rows: usize, codes: 
     let period = 8 * columns;
     let eights = rows / 8;
     let joined = joined_codes(codes, period, eights);
-    let mut place = 0;
-    while place < period {
+    for place in 0..period {
         if limits[place % columns] <= joined[place] {
             return 0;
         }
-        place = place + 1;
     }
     8 * eights
 }
@@ -85,10 +71,8 @@ fn joined_codes(codes: &[u64], period: usize, periods: usize) -> [u64; LONGEST_P
     ensures { Covers codes.now period periods result }
 {
     let mut joined = [0u64; LONGEST_PERIOD];
-    let mut i = 0;
-    while i < periods {
+    for i in 0..periods {
         join_codes(codes, i * period, period, &mut joined);
-        i = i + 1;
     }
     joined
 }
@@ -98,26 +82,26 @@ fn join_codes(codes: &[u64], at: usize, n: usize, joined: &mut [u64; LONGEST_PER
     requires { CodesThere at n codes.now joined.old }
     ensures { Raised codes.now at n joined.old joined.new }
 {
-    let mut k = 0;
-    while k < n {
-        joined[k] = joined[k] | codes[at + k];
-        k = k + 1;
+    for k in 0..n {
+        joined[k] |= codes[at + k];
     }
 }
 
-// The lowest column whose code, in the row that starts at a place, is not below its limit, or the
-// number of columns.
-fn first_at_limit(limits: &[u64; MOST_COLUMNS], columns: usize, codes: &[u64], at: usize) -> usize
+// The lowest column whose code, in the row that starts at a place, is not below its limit.
+fn first_at_limit(
+    limits: &[u64; MOST_COLUMNS],
+    columns: usize,
+    codes: &[u64],
+    at: usize,
+) -> Option<usize>
     requires { RowThere columns at codes.now }
-    ensures { result ≡ first_place (λ column. not (ltb (get_or codes.now (at + column) 0)
+    ensures { result ≡ first_found (λ column. not (ltb (get_or codes.now (at + column) 0)
         (get_or limits.now column 0))) columns }
 {
-    let mut column = 0;
-    while column < columns {
+    for column in 0..columns {
         if limits[column] <= codes[at + column] {
-            return column;
+            return Some(column);
         }
-        column = column + 1;
     }
-    column
+    None
 }

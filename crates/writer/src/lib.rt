@@ -27,16 +27,14 @@ pub fn write(rows: usize, widths: &[u8], codes: &[u64], out: &mut [u8]) -> Resul
     if MOST_COLUMNS < columns {
         return Err(Refusal::UnfitColumnCount);
     }
-    let unfit = table::first_unfit(widths);
-    if unfit < columns {
-        return Err(Refusal::UnfitColumn(unfit));
+    if let Some(column) = table::first_unfit(widths) {
+        return Err(Refusal::UnfitColumn(column));
     }
     if codes.len() != rows * columns {
         return Err(Refusal::UnfitCodeCount);
     }
-    let large = table::first_too_large(rows, widths, codes);
-    if large < codes.len() {
-        return Err(Refusal::CodeTooLarge(large));
+    if let Some(index) = table::first_too_large(rows, widths, codes) {
+        return Err(Refusal::CodeTooLarge(index));
     }
     let need = filing::file_length(rows, widths);
     if out.len() < need {

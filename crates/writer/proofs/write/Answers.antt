@@ -9,6 +9,7 @@ use lib.ListN.{length}
 use Rattle.limits.specs.Limits.{most_columns}
 use Rattle.basis.proofs.Truth.{left_holds, right_holds, differs}
 use Rattle.basis.proofs.Refusals.{at_first, stops}
+use Rattle.basis.proofs.Places.{found_at, found_nowhere}
 use Rattle.answers.proofs.Replies.{refused_by, accepted_by}
 use Rattle.directory.proofs.Entries.{few_bytes}
 use Rattle.table.specs.Table.{FitWidths, FitCodes, first_unfit_width, first_too_large}
@@ -16,8 +17,8 @@ use Rattle.writer.specs.Writing.{write_lines}
 use Rattle.writer.proofs.Fit.{widths_fit, codes_fit}
 use Rattle.writer.proofs.Writing as writing
 use Rattle.writer.proofs.write.Goals as goal
-use Rattle.writer.proofs.write.Goals.{Else-codes-rows, Else-columns-gt-MOST_COLUMNS, Else-large-codes}
-use Rattle.writer.proofs.write.Goals.{Else-rows-gt-MOST_ROWS, Else-unfit-columns}
+use Rattle.writer.proofs.write.Goals.{Else-rows-gt-MOST_ROWS, Else-columns-gt-MOST_COLUMNS, Else-codes-rows}
+use Rattle.writer.proofs.write.Goals.{In_default, In_default-first_too_large}
 
 -- so many lines of the table have been passed over
 past_0 : (rows : ℕ) (widths codes : List ℕ) (room : ℕ) → writing.Passed rows widths codes room 0
@@ -33,31 +34,31 @@ past_4 c =
     let few = writing.few_rows _ _ _ _ c.if-rows-gt-MOST_ROWS.false in
     writing.few_columns _ _ _ _ few c.if-columns-eq0.false c.if-columns-gt-MOST_COLUMNS.false
 
-none_unfit : (c : Else-unfit-columns) → length c.args.widths.now ≤ first_unfit_width c.args.widths.now
-none_unfit c = omega (arith, c.first_unfit-unfit.ensures, c.if-unfit-columns.false)
+none_unfit : (c : In_default) → length c.args.widths.now ≤ first_unfit_width c.args.widths.now
+none_unfit c = found_nowhere _ _ c.in_default.ensures
 
-past_6 : (c : Else-unfit-columns) →
+past_6 : (c : In_default) →
     let a = c.args in writing.Passed a.rows a.widths.now a.codes.now (length a.out.now) 3
 past_6 c = writing.all_fit _ _ _ _ (past_4 (goal.at.overflow_mul-rows c).Else-columns-gt-MOST_COLUMNS) (none_unfit c)
 
 past_9 : (c : Else-codes-rows) →
     let a = c.args in writing.Passed a.rows a.widths.now a.codes.now (length a.out.now) 4
-past_9 c = writing.counted _ _ _ _ (past_6 (goal.at.first_too_large-large-requires c).Else-unfit-columns) c.if-codes-rows.false
+past_9 c = writing.counted _ _ _ _ (past_6 (goal.at.first_too_large-requires c).In_default) c.if-codes-rows.false
 
-none_large : (c : Else-large-codes) →
+none_large : (c : In_default-first_too_large) →
     let args = c.args in length args.codes.now ≤ first_too_large args.widths.now args.codes.now
-none_large c = omega (arith, c.first_too_large-large.ensures, c.if-large-codes.false)
+none_large c = found_nowhere _ _ c.in_default-first_too_large.ensures
 
-past_8 : (c : Else-large-codes) →
+past_8 : (c : In_default-first_too_large) →
     let a = c.args in writing.Passed a.rows a.widths.now a.codes.now (length a.out.now) 5
 past_8 c = writing.all_below _ _ _ _ (past_9 (goal.at.file_length-need-requires c).Else-codes-rows) (none_large c)
 
 -- so widths and codes fit
-fit_widths : (c : Else-unfit-columns) → FitWidths c.args.widths.now
+fit_widths : (c : In_default) → FitWidths c.args.widths.now
 fit_widths c =
     widths_fit _ c.if-columns-eq0.false c.if-columns-gt-MOST_COLUMNS.false (none_unfit c)
 
-fit_codes : (c : Else-large-codes) → FitCodes c.args.rows c.args.widths.now c.args.codes.now
+fit_codes : (c : In_default-first_too_large) → FitCodes c.args.rows c.args.widths.now c.args.codes.now
 fit_codes c =
     codes_fit _ _ _ c.if-rows-gt-MOST_ROWS.false c.if-codes-rows.false (none_large c)
 
@@ -81,13 +82,13 @@ returns-then-columns-gt-MOST_COLUMNS c =
     let past = past_3 (goal.at.returns-then-columns-gt-MOST_COLUMNS c).Else-rows-gt-MOST_ROWS in
     refused_by _ _ _ _ (stops past many)
 
-pub returns-then-unfit-columns : goal.returns-then-unfit-columns
+pub returns-in-Some : goal.returns-in-Some
 unfolding write_lines
-returns-then-unfit-columns c =
-    let first = c.first_unfit-unfit.ensures in
-    let unfit = lt-ltb _ _ (rw first at c.if-unfit-columns.true) in
-    let past = past_4 (goal.at.returns-then-unfit-columns c).Else-columns-gt-MOST_COLUMNS in
-    rw first (refused_by _ _ _ _ (stops past unfit))
+returns-in-Some c =
+    let (first, inside) = found_at _ _ _ c.in-Some.ensures in
+    let unfit = lt-ltb _ _ (rw (← first) at inside) in
+    let past = past_4 (goal.at.returns-in-Some c).Else-columns-gt-MOST_COLUMNS in
+    rw (← first) (refused_by _ _ _ _ (stops past unfit))
 
 pub overflow_mul-rows : goal.overflow_mul-rows
 overflow_mul-rows c =
@@ -98,24 +99,24 @@ overflow_mul-rows c =
 pub returns-then-codes-rows : goal.returns-then-codes-rows
 unfolding write_lines
 returns-then-codes-rows c =
-    let past = past_6 (goal.at.returns-then-codes-rows c).Else-unfit-columns in
+    let past = past_6 (goal.at.returns-then-codes-rows c).In_default in
     refused_by _ _ _ _ (stops past (differs _ _ c.if-codes-rows.true))
 
-pub first_too_large-large-requires : goal.first_too_large-large-requires
-first_too_large-large-requires c =
-    record { fit = fit_widths (goal.at.first_too_large-large-requires c).Else-unfit-columns; full = c.if-codes-rows.false }
+pub first_too_large-requires : goal.first_too_large-requires
+first_too_large-requires c =
+    record { fit = fit_widths (goal.at.first_too_large-requires c).In_default; full = c.if-codes-rows.false }
 
-pub returns-then-large-codes : goal.returns-then-large-codes
+pub returns-in-Some-first_too_large : goal.returns-in-Some-first_too_large
 unfolding write_lines
-returns-then-large-codes c =
-    let first = c.first_too_large-large.ensures in
-    let large = lt-ltb _ _ (rw first at c.if-large-codes.true) in
-    let past = past_9 (goal.at.returns-then-large-codes c).Else-codes-rows in
-    rw first (refused_by _ _ _ _ (stops past large))
+returns-in-Some-first_too_large c =
+    let (first, inside) = found_at _ _ _ c.in-Some-first_too_large.ensures in
+    let large = lt-ltb _ _ (rw (← first) at inside) in
+    let past = past_9 (goal.at.returns-in-Some-first_too_large c).Else-codes-rows in
+    rw (← first) (refused_by _ _ _ _ (stops past large))
 
 pub file_length-need-requires : goal.file_length-need-requires
 file_length-need-requires c =
-    let fit = fit_widths (goal.at.file_length-need-requires c).Else-unfit-columns in
+    let fit = fit_widths (goal.at.file_length-need-requires c).In_default in
     record { fit_widths = fit; few_rows = (fit_codes c).few_rows }
 
 pub returns-then-out-need : goal.returns-then-out-need
@@ -123,19 +124,19 @@ unfolding write_lines
 returns-then-out-need c =
     let end = c.file_length-need.ensures in
     let short = lt-ltb _ _ (rw end at c.if-out-need.true) in
-    let past = past_8 (goal.at.returns-then-out-need c).Else-large-codes in
+    let past = past_8 (goal.at.returns-then-out-need c).In_default-first_too_large in
     rw end (refused_by _ _ _ _ (stops past short))
 
 pub write_file-requires : goal.write_file-requires
 write_file-requires c =
     record {
-      fit_widths = fit_widths (goal.at.write_file-requires c).Else-unfit-columns;
-      fit_codes = fit_codes (goal.at.write_file-requires c).Else-large-codes;
+      fit_widths = fit_widths (goal.at.write_file-requires c).In_default;
+      fit_codes = fit_codes (goal.at.write_file-requires c).In_default-first_too_large;
       room = omega (arith, c.file_length-need.ensures, c.if-out-need.false);
     }
 
 pub returns : goal.returns
 returns c =
     let end = c.file_length-need.ensures in
-    let past = past_8 (goal.at.returns c).Else-large-codes in
+    let past = past_8 (goal.at.returns c).In_default-first_too_large in
     accepted_by _ _ _ _ (writing.none_answers _ _ _ _ past (omega (arith, end, c.if-out-need.false))) end c.write_file.ensures
