@@ -46,10 +46,8 @@ fn slices_in(widths: &[u8]) -> usize
     ensures { SlicesCounted widths.now result }
 {
     let mut slices: usize = 0;
-    let mut column = 0;
-    while column < widths.len() {
-        slices = slices + codes::slices_of(widths[column]);
-        column = column + 1;
+    for width in widths {
+        slices += codes::slices_of(*width);
     }
     slices
 }
@@ -60,12 +58,9 @@ fn write_directory(rows: usize, widths: &[u8], out: &mut [u8], at: usize)
     ensures { out.new ≡ laid out.old at (directory_of rows widths.now) }
 {
     let mut slices: usize = 0;
-    let mut column = 0;
-    while column < widths.len() {
-        let width = widths[column];
-        write_entry(width, rows * slices, out, at + ENTRY_BYTES * column);
-        slices = slices + codes::slices_of(width);
-        column = column + 1;
+    for (column, width) in widths.iter().enumerate() {
+        write_entry(*width, rows * slices, out, at + ENTRY_BYTES * column);
+        slices += codes::slices_of(*width);
     }
 }
 
@@ -74,10 +69,7 @@ fn write_entry(width: u8, offset: usize, out: &mut [u8], at: usize)
     requires { at + entry_bytes ≤ length out.old }
     ensures { out.new ≡ laid out.old at (entry_with width offset) }
 {
-    out[at] = width;
-    out[at + 1] = 0;
-    out[at + 2] = 0;
-    out[at + 3] = 0;
+    out[at..at + 4].copy_from_slice(&[width, 0, 0, 0]);
     write_number(offset, 4, out, at + 4);
 }
 
@@ -95,14 +87,9 @@ fn write_trailer(rows: usize, columns: usize, directory: usize, out: &mut [u8], 
 
 // Writes a number in so many bytes, the least significant first.
 fn write_number(number: usize, bytes: usize, out: &mut [u8], at: usize)
-    requires { at + bytes ≤ length out.old }
+    requires few { bytes ≤ 8 }
+    requires room { at + bytes ≤ length out.old }
     ensures { out.new ≡ laid out.old at (to_little bytes number) }
 {
-    let mut rest = number;
-    let mut i = 0;
-    while i < bytes {
-        out[at + i] = (rest % 256) as u8;
-        rest = rest / 256;
-        i = i + 1;
-    }
+    out[at..at + bytes].copy_from_slice(&number.to_le_bytes()[..bytes]);
 }

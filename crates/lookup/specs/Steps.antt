@@ -11,11 +11,6 @@ AllBelow bound list = (i : ℕ) → i < length list → get_or list i 0 < bound
 abbrev pub NoneAbove : ℕ → List ℕ → Type 0
 NoneAbove bound list = (i : ℕ) → i < length list → get_or list i 0 ≤ bound
 
--- neither of two numbers is above a bound
-pub record NeitherAbove (bound a b : ℕ) : Type 0 where
-  pub first : a ≤ bound
-  pub second : b ≤ bound
-
 -- the file opened as the shape, has the column and every listed row, and the output has room for their codes
 pub record ToLookUp (file : List ℕ) (shape : Shape) (column : ℕ) (list out : List ℕ) : Type 0 where
   pub opened : opened_of file ≡ Ok shape

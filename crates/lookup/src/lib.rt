@@ -5,7 +5,7 @@
 ghost use Rattle.std.specs.Prelude.{◌≡◌, length};
 ghost use Rattle.basis.specs.Buffers.{laid};
 ghost use Rattle.answers.specs.Answers.{shown_of};
-ghost use Rattle.lookup.specs.Steps.{NoneAbove, NeitherAbove, ToLookUp};
+ghost use Rattle.lookup.specs.Steps.{NoneAbove, ToLookUp};
 ghost use Rattle.lookup.specs.LookingUp.{first_missing, codes_of, looked_up_of, shown_for, left_in};
 
 use refusals::Refusal;
@@ -33,23 +33,18 @@ pub fn look_up(file: &[u8], column: usize, rows: &[u32], out: &mut [u64]) -> Res
     Ok(rows.len())
 }
 
-fn wide(row: u32) -> usize
-    ensures { result ≡ row }
-{
-    row as usize
-}
-
 // The lowest index of a row number that is not below the rows, or the length of the list. Mostly there
 // is none, which the greatest number tells sooner than the search.
 fn first_missing(rows: usize, list: &[u32]) -> usize
     ensures { result ≡ first_missing rows list.now }
 {
-    if wide(greatest_of(list)) < rows {
+    let greatest = greatest_of(list) as usize;
+    if greatest < rows {
         return list.len();
     }
     let mut i = 0;
     while i < list.len() {
-        if rows <= wide(list[i]) {
+        if rows <= list[i] as usize {
             return i;
         }
         i = i + 1;
@@ -61,22 +56,7 @@ fn first_missing(rows: usize, list: &[u32]) -> usize
 fn greatest_of(list: &[u32]) -> u32
     ensures { NoneAbove result list.now }
 {
-    let mut greatest: u32 = 0;
-    let mut i = 0;
-    while i < list.len() {
-        greatest = greater(greatest, list[i]);
-        i = i + 1;
-    }
-    greatest
-}
-
-fn greater(a: u32, b: u32) -> u32
-    ensures { NeitherAbove result a b }
-{
-    if a < b {
-        return b;
-    }
-    a
+    list.iter().copied().max().unwrap_or(0)
 }
 
 // Writes the code of each listed row to the front, one for each.
@@ -87,9 +67,7 @@ fn write_codes(file: &[u8], shape: Shape, column: usize, list: &[u32], out: &mut
     let width = register::width_at(file, shape, column);
     let offset = register::offset_at(file, shape, column);
     let rows = shape.rows;
-    let mut i = 0;
-    while i < list.len() {
-        out[i] = cells::code_of(file, width, offset, rows, wide(list[i]));
-        i = i + 1;
+    for (i, row) in list.iter().enumerate() {
+        out[i] = cells::code_of(file, width, offset, rows, *row as usize);
     }
 }

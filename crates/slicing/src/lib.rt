@@ -2,8 +2,7 @@
 
 #![tactic(auto)]
 
-ghost use Rattle.std.specs.Prelude.{◌≡◌, map, ◌+◌, ◌/◌, ◌%◌, ◌^◌, min, length, get_or};
-ghost use Rattle.limits.specs.Limits.{block_rows};
+ghost use Rattle.std.specs.Prelude.{◌≡◌, map, ◌+◌, ◌/◌, ◌%◌, ◌^◌, length, get_or};
 ghost use Rattle.basis.specs.Buffers.{laid};
 ghost use Rattle.basis.specs.Lists.{below};
 ghost use Rattle.codes.specs.Width.{slices_of};
@@ -22,22 +21,10 @@ pub fn write_body(rows: usize, widths: &[u8], codes: &[u64], out: &mut [u8])
     requires { FitBody rows widths.now codes.now out.old }
     ensures { out.new ≡ laid out.old 0 (body_of rows widths.now codes.now) }
 {
-    let mut first = 0;
-    while first < rows {
-        let n = rows_in_block(rows - first);
+    for first in (0..rows).step_by(BLOCK_ROWS) {
+        let n = BLOCK_ROWS.min(rows - first);
         write_block(rows, widths, codes, first, n, out);
-        first = first + n;
     }
-}
-
-// How many of the rows that are left the next block has.
-fn rows_in_block(left: usize) -> usize
-    ensures { result ≡ min left block_rows }
-{
-    if left < BLOCK_ROWS {
-        return left;
-    }
-    BLOCK_ROWS
 }
 
 // Writes the bytes of a block of rows, column after column.
@@ -47,11 +34,9 @@ fn write_block(rows: usize, widths: &[u8], codes: &[u64], first: usize, n: usize
         first (first + n) 0 (slices_before (width_of widths.now) (length widths.now)) }
 {
     let mut slices: usize = 0;
-    let mut column = 0;
-    while column < widths.len() {
+    for (column, width) in widths.iter().enumerate() {
         write_block_column(rows, widths, codes, column, slices, first, n, out);
-        slices = slices + codes::slices_of(widths[column]);
-        column = column + 1;
+        slices += codes::slices_of(*width);
     }
 }
 
@@ -74,11 +59,9 @@ fn write_block_column(
     let mut stored = [0u32; BLOCK_ROWS];
     copy_stored(rows, widths, codes, column, first, n, &mut stored);
     let own = codes::slices_of(widths[column]);
-    let mut slice = 0;
-    while slice < own {
+    for slice in 0..own {
         let at = rows * (slices + slice) + first;
         write_run(&stored, n, 8 * (own - 1 - slice), out, at);
-        slice = slice + 1;
     }
 }
 
@@ -98,11 +81,9 @@ fn copy_stored(
 {
     let columns = widths.len();
     let unit = codes::unit_of(widths[column]);
-    let mut k = 0;
-    while k < n {
+    for k in 0..n {
         let row = first + k;
         stored[k] = (codes[row * columns + column] * unit) as u32;
-        k = k + 1;
     }
 }
 
@@ -113,9 +94,7 @@ fn write_run(stored: &[u32; BLOCK_ROWS], n: usize, shift: usize, out: &mut [u8],
     ensures { out.new ≡ laid out.old at
         (map (λ k. get_or stored.now k 0 / 2 ^ shift % 256) (below n)) }
 {
-    let mut k = 0;
-    while k < n {
+    for k in 0..n {
         out[at + k] = ((stored[k] >> shift) % 256) as u8;
-        k = k + 1;
     }
 }

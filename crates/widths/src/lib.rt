@@ -31,9 +31,7 @@ fn write_widths(file: &[u8], shape: Shape, out: &mut [u8])
     requires { (opened_of file.now ≡ Ok shape) × (shape.columns ≤ length out.old) }
     ensures { out.new ≡ laid out.old 0 (widths_of file.now) }
 {
-    let mut column: usize = 0;
-    while column < shape.columns {
+    for column in 0..shape.columns {
         out[column] = register::width_at(file, shape, column);
-        column = column + 1;
     }
 }

@@ -13,9 +13,6 @@ few c =
     few_bytes _ c.slices_in.result most_columns c.requires.few_rows (omega (arith, c.slices_in.ensures.few))
     (omega arith)
 
-pub overflow_mul-result : goal.overflow_mul-result
-overflow_mul-result c = omega (arith, few c)
-
 pub returns : goal.returns
 returns c =
     record { counted = ap (λ (slices : ℕ). c.args.rows * slices) c.slices_in.ensures.counted; few = few c }

@@ -1,11 +1,6 @@
--- What the loop of `slices_in` keeps, and what each turn makes less.
-use Prim.Native.Nat.{◌-◌}
-use lib.ListN.{length}
+-- What the loop of `slices_in` keeps: the slices of the columns passed are counted. Assumes nothing.
 use Rattle.table.proofs.Columns.{Counted}
 use Rattle.filing.proofs.slices_in.Given as goal
 
-abbrev pub invariant-loop-column : goal.invariant-loop-column
-invariant-loop-column l = Counted l.widths l.slices l.column
-
-abbrev pub decreases-loop-column : goal.decreases-loop-column
-decreases-loop-column l = length l.widths - l.column
+abbrev pub invariant-loop-width : goal.invariant-loop-width
+invariant-loop-width l = Counted l.widths l.slices l.width-index

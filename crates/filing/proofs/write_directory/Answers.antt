@@ -7,7 +7,6 @@ use lib.ListN.{length}
 use Rattle.limits.specs.Limits.{entry_bytes}
 use Rattle.basis.proofs.Buffers.{filled_nothing, filled_list}
 use Rattle.directory.specs.Layout.{slices_before}
-use Rattle.directory.proofs.Entries.{few_bytes}
 use Rattle.table.specs.Table.{width_of}
 use Rattle.filing.specs.Layout.{directory_of}
 use Rattle.table.proofs.Columns.{Counted, none_counted, one_more_counted}
@@ -25,15 +24,6 @@ pub loop-column-init : goal.loop-column-init
 unfolding flatten
 loop-column-init c = let args = c.args in (none_counted _, filled_nothing args.out.now args.at)
 
-pub overflow_mul-rows : goal.overflow_mul-rows
-overflow_mul-rows c =
-    let turn = c.loop-column in
-    let pre = c.requires in
-    omega (arith, few_bytes _ turn.slices turn.column pre.few_rows turn.invariant.0.few (omega (arith, pre.fit_widths.few)))
-
-pub write_entry-requires : goal.write_entry-requires
-write_entry-requires c = omega (arith, c.loop-column.invariant.1.same_length)
-
 pub overflow_add-slices : goal.overflow_add-slices
 overflow_add-slices c = omega (arith, (passed c).few, c.requires.fit_widths.few)
 
@@ -47,9 +37,6 @@ loop-column-preserved c =
       filled_list _ _ (entry_of args.rows args.widths.now) column (args.at + entry_bytes * column) c.loop-column.invariant.1
           (omega arith) (omega arith) (rw c.loop-column.invariant.0.counted at c.write_entry.ensures),
     )
-
-pub shape_of-out : goal.shape_of-out
-shape_of-out c = c.loop-column.invariant.1.same_length
 
 pub returns : goal.returns
 unfolding directory_of

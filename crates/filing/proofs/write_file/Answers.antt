@@ -42,11 +42,6 @@ room : (c : After-body_length-body) →
 unfolding file_length
 room c = omega (arith, c.body_length-body.ensures.counted, c.requires.room)
 
-pub body_length-body-requires : goal.body_length-body-requires
-body_length-body-requires c =
-    let pre = c.requires in
-    record { fit_widths = pre.fit_widths; few_rows = pre.fit_codes.few_rows }
-
 pub write_body-requires : goal.write_body-requires
 write_body-requires c =
     let pre = c.requires in
@@ -69,9 +64,6 @@ pub returns : goal.returns
 returns c =
     parts_are_file _ _ _ _ c.body_length-body.result c.body_length-body.ensures.counted (room (goal.at.returns c).After-body_length-body)
     c.write_body.ensures c.write_directory.ensures c.write_trailer.ensures
-
-pub overflow_add-body : goal.overflow_add-body
-overflow_add-body c = omega (arith, room (goal.at.overflow_add-body c).After-body_length-body)
 
 pub write_trailer-requires : goal.write_trailer-requires
 write_trailer-requires c = omega (arith, room (goal.at.write_trailer-requires c).After-body_length-body)

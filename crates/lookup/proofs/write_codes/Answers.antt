@@ -2,7 +2,7 @@
 -- byte of a listed row lies in the body. Assumes nothing.
 use Prim.Native.Nat.{ℕ}
 use native.Mathlib.Omega.{arith}
-use mathlib.Core.Path.{◌≡◌, refl, sym, ap, ap₂, ◌∙◌}
+use mathlib.Core.Path.{◌≡◌, sym, ap, ap₂, ◌∙◌}
 use mathlib.Core.List.{List, map}
 use lib.ListN.{take, get_or, set, length-set}
 use lib.Seq.{take_all}
@@ -20,16 +20,13 @@ code_here : (c : After-code_of) →
     c.code_of.result ≡ code_at c.args.file.now c.args.column row
 code_here c =
     c.code_of.ensures
-    ∙ rw (c.width_at-width.ensures, c.offset_at-offset.ensures, c.wide.ensures)
+    ∙ rw (c.width_at-width.ensures, c.offset_at-offset.ensures)
     (sym (code_gathered _ _ c.requires.opened _ _))
-
-pub loop-i-init : goal.loop-i-init
-loop-i-init c = (omega arith, refl, refl)
 
 pub code_of-requires : goal.code_of-requires
 code_of-requires c =
     let known = c.requires in
-    rw (c.width_at-width.ensures, c.offset_at-offset.ensures, c.wide.ensures)
+    rw (c.width_at-width.ensures, c.offset_at-offset.ensures)
     (code_within
     (record {
       opened = known.opened;
@@ -42,13 +39,9 @@ loop-i-preserved c =
     let turn = c.loop-i in
     let a = c.args in
     let stored = laid_each (code_at a.file.now a.column) a.out.now a.list.now turn.i 0 (omega arith) (omega arith) in (
-      omega arith,
-      ap₂ (λ (out : List ℕ) (code : ℕ). set out turn.i code) turn.invariant.1 (code_here c) ∙ stored,
-      rw length-set turn.invariant.2,
+      ap₂ (λ (out : List ℕ) (code : ℕ). set out turn.i code) turn.invariant.0 (code_here c) ∙ stored,
+      rw length-set turn.invariant.1,
     )
-
-pub shape_of-out : goal.shape_of-out
-shape_of-out c = c.loop-i.invariant.2
 
 pub returns : goal.returns
 unfolding codes_of
@@ -56,4 +49,4 @@ returns c =
     let turn = c.loop-i in
     let a = c.args in
     let all : take turn.i a.list.now ≡ a.list.now = take_all turn.i a.list.now c.loop-i-test.false in
-    turn.invariant.1 ∙ ap (λ (list : List ℕ). laid a.out.now 0 (map (code_at a.file.now a.column) list)) all
+    turn.invariant.0 ∙ ap (λ (list : List ℕ). laid a.out.now 0 (map (code_at a.file.now a.column) list)) all

