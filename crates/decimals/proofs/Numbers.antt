@@ -16,10 +16,10 @@ use mathlib.Core.Path.{◌≡◌, refl, sym, ap, ap₂, subst, ◌∙◌}
 use mathlib.Core.Logic.{⊎_elim}
 use mathlib.Core.List.{List, [], ◌∷◌, ◌++◌, append_assoc}
 use lib.ListN.{length, get_or, drop, length-append, drop_of_length-le, get_or-append, get_or-eq_default}
+use Rattle.std.specs.Prelude.{Option, None}
 use Rattle.basis.proofs.Runs.{within_or_past}
 use Rattle.decimals.specs.declared.After.{After}
 use Rattle.decimals.specs.declared.After.TheVariants.{Space, LineFeed}
-use Rattle.std.specs.Prelude.{Option, None}
 use Rattle.decimals.specs.Decimals.{digit, decimal}
 use Rattle.decimals.specs.Reading.{after_byte, ended_by, NumberAt}
 use Rattle.decimals.proofs.Words.{AllOf, joined_word, byte_of_word}

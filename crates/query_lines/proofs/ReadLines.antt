@@ -3,27 +3,25 @@
 --   word_missing        a text that does not begin with "segment " has no line 0
 --   segment_read        line 0 is the word and the decimal after it, or there is none
 --   column_missing      no column, no line
---   sign_missing        a column and no sign, no line
---   literal_missing     a column, a sign and no literal, no line
---   line_read           a column, a sign and a literal are a line
-use Prim.Native.Nat.{ℕ, ◌<◌, ◌≤◌}
+--   comparison_missing  a column and no comparison, no line
+--   line_read           a column and a comparison are a line
+use Prim.Native.Nat.{ℕ}
 use native.Mathlib.Omega.{arith}
-use mathlib.Core.Path.{◌≡◌, sym, ap, ap₂, ◌∙◌}
+use mathlib.Core.Path.{◌≡◌, sym, ap, ◌∙◌}
 use mathlib.Core.List.{List, ◌∷◌, ◌++◌, append_cancel_left}
-use lib.ListN.{length, get_or, drop, get_or-append}
+use lib.ListN.{drop}
+use Rattle.std.specs.Prelude.{Option, Some, None}
 use Rattle.limits.specs.Limits.{decimal_limit}
 use Rattle.query.specs.declared.Comparison.{Comparison}
 use Rattle.query.specs.declared.Test.{Test}
 use Rattle.query.specs.Tests.{literal_of}
 use Rattle.decimals.specs.declared.After.TheVariants.{Space, LineFeed}
-use Rattle.std.specs.Prelude.{Option, Some, None}
 use Rattle.decimals.specs.Decimals.{decimal, space, line_feed}
 use Rattle.query_lines.specs.Lines.{segment_word, sign_of, test_text, SmallTest, BeginsSegment}
 use Rattle.decimals.specs.Reading.{NumberAt}
-use Rattle.query_lines.specs.Steps.{SegmentAt, SignAt, LineAt}
+use Rattle.query_lines.specs.Steps.{SegmentAt, ComparisonAt, LineAt}
 use Rattle.decimals.proofs.Decimals.{same_decimal}
-use Rattle.query_lines.proofs.Lines.{segment_line_then, test_line_then, same_sign}
-use Rattle.decimals.proofs.Places.{front_by_bytes}
+use Rattle.query_lines.proofs.Lines.{segment_line_then, test_line_then}
 
 -- the number at a place: a column, which a space follows, or a literal, which a line feed follows
 abbrev pub ColumnAt : List ℕ → ℕ → Option (ℕ × ℕ) → Type 0
@@ -59,26 +57,16 @@ module _ (text : List ℕ) (at : ℕ) where
         (same_decimal column test.column (omega arith) (omega (arith, small.column)) (λ d. omega arith) (λ d. omega arith)
         (sym number.3 ∙ e ∙ test_line_then test rest)).2
 
-    pub sign_missing : SignAt text behind None → LineAt text at None
-    sign_missing none test rest small e = none test.comparison _ (behind_column test rest small e)
+    pub comparison_missing : ComparisonAt text behind None → LineAt text at None
+    comparison_missing none test rest small e = none test.comparison rest small.literal (behind_column test rest small e)
 
-    module _ (comparison : Comparison) {next : ℕ} (sign : SignAt text behind (Some (comparison, next))) where
-      pub literal_missing : LiteralAt text next None → LineAt text at None
-      literal_missing none test rest small e =
-          none (literal_of test.comparison) rest small.literal
-          (same_sign comparison test.comparison (sym sign.2 ∙ behind_column test rest small e)).1
-
-      pub line_read : {literal after : ℕ} → LiteralAt text next (Some (literal, after)) → (asked : Comparison) →
-          sign_of asked ≡ sign_of comparison → literal_of asked ≡ literal →
-          LineAt text at (Some (record { column = column; comparison = asked }, after))
-      line_read {literal} {after} last asked same carried = (
-        record { column = number.0; literal = omega (arith, last.0) },
-        omega arith,
-        last.2,
-        number.3
-            ∙ ap (λ (rest : List ℕ). decimal column ++ (space ∷ rest))
-            (sign.2
-            ∙ ap₂ (λ (word rest : List ℕ). word ++ (space ∷ rest)) (sym same)
-            (last.3 ∙ ap (λ (n : ℕ). decimal n ++ (line_feed ∷ drop after text)) (sym carried)))
-            ∙ sym (test_line_then (record { column = column; comparison = asked }) (drop after text)),
-      )
+    pub line_read : (comparison : Comparison) {next : ℕ} → ComparisonAt text behind (Some (comparison, next)) →
+        LineAt text at (Some (record { column = column; comparison = comparison }, next))
+    line_read comparison {next} there = (
+      record { column = number.0; literal = there.0 },
+      omega arith,
+      there.2,
+      number.3
+          ∙ ap (λ (rest : List ℕ). decimal column ++ (space ∷ rest)) there.3
+          ∙ sym (test_line_then (record { column = column; comparison = comparison }) (drop next text)),
+    )

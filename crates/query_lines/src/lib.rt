@@ -3,9 +3,7 @@
 #![tactic(auto)]
 
 ghost use Rattle.std.specs.Prelude.{◌≡◌, ◌+◌, ◌≤◌, length};
-ghost use Rattle.query.specs.Tests.{literal_of};
-ghost use Rattle.query_lines.specs.Lines.{sign_of};
-ghost use Rattle.query_lines.specs.Steps.{SegmentAt, SignAt, spaced_at, LineAt};
+ghost use Rattle.query_lines.specs.Steps.{SegmentAt, ComparisonAt, ComparedAt, LineAt};
 
 use decimals::After;
 use limits::DECIMAL_LIMIT;
@@ -31,55 +29,46 @@ pub fn read_line(text: &[u8], at: usize) -> Option<(Test, usize)>
     ensures { LineAt text.now at result }
 {
     let (column, behind) = decimals::read_number(text, at, After::Space, GREATEST_DECIMAL)?;
-    let (comparison, behind) = read_sign(text, behind)?;
-    let (literal, behind) = decimals::read_number(text, behind, After::LineFeed, GREATEST_DECIMAL)?;
+    let (comparison, behind) = read_comparison(text, behind)?;
     let test = Test {
         column: column as usize,
-        comparison: with_literal(comparison, literal),
+        comparison,
     };
     Some((test, behind))
 }
 
-// The comparison of the same sign with this literal.
-fn with_literal(comparison: Comparison, literal: u64) -> Comparison
-    ensures { (sign_of result ≡ sign_of comparison) × (literal_of result ≡ literal) }
-{
-    match comparison {
-        Comparison::Less(_) => Comparison::Less(literal),
-        Comparison::AtMost(_) => Comparison::AtMost(literal),
-        Comparison::More(_) => Comparison::More(literal),
-        Comparison::AtLeast(_) => Comparison::AtLeast(literal),
-        Comparison::Equal(_) => Comparison::Equal(literal),
-        Comparison::Differs(_) => Comparison::Differs(literal),
-    }
-}
-
-// A sign and the space after it: a comparison by its sign, its literal still 0, and the place behind the space.
-fn read_sign(text: &[u8], at: usize) -> Option<(Comparison, usize)>
+// A sign, a space, a literal, a line feed: the comparison, and the place behind the line.
+fn read_comparison(text: &[u8], at: usize) -> Option<(Comparison, usize)>
     requires { at ≤ length text.now }
-    ensures { SignAt text.now at result }
+    ensures { ComparisonAt text.now at result }
 {
     let first = decimals::byte_at(text, at);
     let second = decimals::byte_at(text, at + 1);
     match (first, second) {
-        (b'<', b'=') => spaced(text, at + 2, Comparison::AtMost(0)),
-        (b'<', _) => spaced(text, at + 1, Comparison::Less(0)),
-        (b'>', b'=') => spaced(text, at + 2, Comparison::AtLeast(0)),
-        (b'>', _) => spaced(text, at + 1, Comparison::More(0)),
-        (b'=', _) => spaced(text, at + 1, Comparison::Equal(0)),
-        (b'!', b'=') => spaced(text, at + 2, Comparison::Differs(0)),
+        (b'<', b'=') => compared(text, at + 2, Comparison::AtMost),
+        (b'<', _) => compared(text, at + 1, Comparison::Less),
+        (b'>', b'=') => compared(text, at + 2, Comparison::AtLeast),
+        (b'>', _) => compared(text, at + 1, Comparison::More),
+        (b'=', _) => compared(text, at + 1, Comparison::Equal),
+        (b'!', b'=') => compared(text, at + 2, Comparison::Differs),
         _ => None,
     }
 }
 
-// The comparison, if a space stands at the place.
-fn spaced(text: &[u8], at: usize, comparison: Comparison) -> Option<(Comparison, usize)>
-    requires { at ≤ length text.now + 2 }
-    ensures { result ≡ spaced_at text.now at comparison }
+// A space, a literal, a line feed: the comparison that is made of the literal, and the place behind the
+// line.
+fn compared<F: FnOnce(u64) -> Comparison>(
+    text: &[u8],
+    at: usize,
+    comparison: F,
+) -> Option<(Comparison, usize)>
+    requires within { at ≤ length text.now + 2 }
+    requires callable { F.IsAlwaysCallable comparison }
+    ensures { ComparedAt (F.post comparison) text.now at result }
 {
-    if decimals::byte_at(text, at) == b' ' {
-        Some((comparison, at + 1))
-    } else {
-        None
+    if decimals::byte_at(text, at) != b' ' {
+        return None;
     }
+    let (literal, next) = decimals::read_number(text, at + 1, After::LineFeed, GREATEST_DECIMAL)?;
+    Some((comparison(literal), next))
 }

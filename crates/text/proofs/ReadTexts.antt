@@ -11,6 +11,7 @@ use native.Mathlib.Omega.{arith}
 use mathlib.Core.Path.{◌≡◌, refl, sym, ap, ap₂, subst, subst₂, subst₃, ◌∙◌}
 use mathlib.Core.List.{List, [], ◌∷◌, ◌++◌, flatten, append-nil, append_assoc}
 use lib.ListN.{length, drop, set, length-append, length-drop, drop_of_length-le}
+use Rattle.std.specs.Prelude.{Some, None}
 use Rattle.query.specs.declared.Test.{Test}
 use Rattle.limits.specs.Limits.{most_tests}
 use Rattle.query.specs.Tests.{empty_slot, slots_of}

@@ -10,6 +10,7 @@ use native.Mathlib.Omega.{arith}
 use mathlib.Core.Path.{◌≡◌, refl, sym, subst}
 use mathlib.Core.List.{List, [], ◌∷◌, ◌++◌, flatten}
 use lib.ListN.{replicate}
+use Rattle.std.specs.Prelude.{None}
 use Rattle.query.specs.declared.Comparison.TheVariants.{Less, Equal}
 use Rattle.query.specs.declared.Test.{Test}
 use Rattle.query.specs.Tests.{empty_slot}
@@ -18,7 +19,6 @@ use Rattle.refusals.specs.declared.Refusal.{Refusal}
 use Rattle.refusals.specs.declared.Refusal.TheVariants.{TooManyTests, MalformedText}
 use Rattle.text.specs.declared.Asked.{Asked}
 use Rattle.decimals.specs.declared.After.TheVariants.{LineFeed}
-use Rattle.std.specs.Prelude.{None}
 use Rattle.decimals.specs.Decimals.{decimal, decimal_in, line_feed}
 use Rattle.query_lines.specs.Lines.{segment_word, segment_text, test_text, text_of}
 use Rattle.text.specs.Reading.{accepted, Formed, Reads}

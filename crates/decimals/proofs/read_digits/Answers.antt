@@ -1,7 +1,7 @@
 -- `decimals::read_digits` meets its contract: at each turn the digits so far are those of the number so far. Assumes nothing.
-use Prim.Native.Nat.{ℕ, ◌+◌, ◌*◌, ◌<◌, ◌≤◌}
+use Prim.Native.Nat.{◌+◌, ◌*◌, ◌<◌, ◌≤◌}
 use native.Mathlib.Omega.{arith}
-use mathlib.Core.Path.{◌≡◌, ap₂, ◌∙◌}
+use mathlib.Core.Path.{◌≡◌, ◌∙◌}
 use lib.ListN.{get_or}
 use Rattle.std.specs.Prelude.{None}
 use Rattle.decimals.specs.Decimals.{digit}
@@ -23,17 +23,23 @@ digit_here c = omega arith
 no_room : (c : After-from-digit) → c.args.most < c.loop-at.number * 10 + c.from-digit.result →
     NumberAt (c.args.most + 1) c.args.text.now c.args.from c.args.after None
 no_room c large =
-    too_large_lem {limit = c.args.most + 1} (omega arith) c.args.text.now _ (digit_here c).1 (digit_here c).0 c.loop-at.invariant c.args.after (omega arith)
+    let here = digit_here c in
+    too_large_lem {limit = c.args.most + 1} (omega arith) c.args.text.now _ here.1 here.0 c.loop-at.invariant c.args.after (omega arith)
 
 pub loop-at-init : goal.loop-at-init
 loop-at-init c =
     first_digit (omega arith) _ _ c.requires.single c.requires.stands c.requires.some (omega arith)
 
 pub returns-in_err-checked_mul-in-48-to-57 : goal.returns-in_err-checked_mul-in-48-to-57
-returns-in_err-checked_mul-in-48-to-57 c = rw c.from_residual.ensures (no_room (goal.at.returns-in_err-checked_mul-in-48-to-57 c).After-from-digit (omega arith))
+returns-in_err-checked_mul-in-48-to-57 c =
+    rw c.from_residual.ensures
+    (no_room (goal.at.returns-in_err-checked_mul-in-48-to-57 c).After-from-digit (omega arith))
 
 pub returns-in_err-longer-in-48-to-57 : goal.returns-in_err-longer-in-48-to-57
-returns-in_err-longer-in-48-to-57 c = rw c.from_residual-in_err-longer-in-48-to-57.ensures (no_room (goal.at.returns-in_err-longer-in-48-to-57 c).After-from-digit (omega (arith, c.in_ok-checked_mul-in-48-to-57.ensures, c.in_err-longer-in-48-to-57.ensures)))
+returns-in_err-longer-in-48-to-57 c =
+    rw c.from_residual-in_err-longer-in-48-to-57.ensures
+    (no_room (goal.at.returns-in_err-longer-in-48-to-57 c).After-from-digit
+    (omega (arith, c.in_ok-checked_mul-in-48-to-57.ensures, c.in_err-longer-in-48-to-57.ensures)))
 
 pub returns-then-most-longer : goal.returns-then-most-longer
 returns-then-most-longer c = no_room (goal.at.returns-then-most-longer c).After-from-digit (omega arith)
@@ -44,7 +50,8 @@ returns-then-most-number c =
     let place = goal.at.returns-then-most-number c in
     let here = digit_here place.After-from-digit in
     let last = further_digit (bound place.At-loop-at) c.args.text.now c.loop-at.at here.1 here.0 c.loop-at.invariant (omega arith) in
-    let longer : c.in_ok-longer-in-48-to-57.longer ≡ c.loop-at.number * 10 + c.from-digit.result = omega (arith, c.in_ok-checked_mul-in-48-to-57.ensures, c.in_ok-longer-in-48-to-57.ensures) in
+    let longer : c.in_ok-longer-in-48-to-57.longer ≡ c.loop-at.number * 10 + c.from-digit.result =
+    omega (arith, c.in_ok-checked_mul-in-48-to-57.ensures, c.in_ok-longer-in-48-to-57.ensures) in
     let next : c.loop-at.at + 2 ≡ c.loop-at.at + 1 + 1 = omega arith in
     must_end (bound place.At-loop-at) last c.args.after (omega (arith, c.loop-at.invariant.some, c.if-most-number.true))
     (c.ended.ensures ∙ (λ i. ended_by c.args.after (c.byte_at.ensures i) (longer i) (next i)))
