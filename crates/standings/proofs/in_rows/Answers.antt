@@ -1,12 +1,10 @@
--- `standings::in_rows` meets its contract: ones are put to the front of zeros. Assumes nothing.
-use Rattle.std.proofs.Common.{arith, ◌≡◌, ℕ, ◌≤◌, cond, ltb, length, get_or, List, ◌++◌, replicate, take, drop}
-use Rattle.std.proofs.lemmas.Grind.{common_steps}
+-- `standings::in_rows` meets its contract: before the first row all is 0. Assumes nothing.
+use native.Mathlib.Omega.{arith}
+use mathlib.Core.Path.{refl, ◌∙◌}
+use borrow.Author.Tests.{le-ltb}
 use Rattle.limits.specs.Limits.{longest_segment}
+use Rattle.basis.proofs.FrontSweeps.{all_zero}
 use Rattle.standings.proofs.in_rows.Goals as goal
 
-ones_then_zeros : (m n : ℕ) (ones : List ℕ) → n ≤ m → ones ≡ replicate (length (take n (replicate {A = ℕ} m 0))) 1 →
-    (length (ones ++ drop n (replicate m 0)) ≡ m) × ((k : ℕ) → get_or (ones ++ drop n (replicate m 0)) k 0 ≡ cond (ltb k n) 1 0)
-ones_then_zeros m n ones short filled = (grind (arith, common_steps), λ k. grind (arith, common_steps))
-
-pub returns : goal.returns
-returns c = ones_then_zeros longest_segment c.args.n c.fill.new.self (omega arith) (c.fill.ensures.after (λ y e. e))
+pub loop-r-init : goal.loop-r-init
+loop-r-init c = (refl, λ k. all_zero longest_segment k ∙ rw (le-ltb k 0 (omega arith)))
