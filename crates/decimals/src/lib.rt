@@ -13,17 +13,6 @@ pub enum After {
     LineFeed,
 }
 
-impl After {
-    fn byte(self) -> u8
-        ensures { result ≡ after_byte self }
-    {
-        match self {
-            After::Space => b' ',
-            After::LineFeed => b'\n',
-        }
-    }
-}
-
 // A decimal without leading zeros, at most the given number, and the byte that must follow it: the number
 // and the place behind both.
 pub fn read_number(text: &[u8], at: usize, after: After, most: u64) -> Option<(u64, usize)>
@@ -82,10 +71,9 @@ fn read_digits(
 fn ended(after: After, byte: u8, number: u64, next: usize) -> Option<(u64, usize)>
     ensures { result ≡ ended_by after byte number next }
 {
-    if byte == after.byte() {
-        Some((number, next))
-    } else {
-        None
+    match (after, byte) {
+        (After::Space, b' ') | (After::LineFeed, b'\n') => Some((number, next)),
+        _ => None,
     }
 }
 

@@ -66,9 +66,11 @@ fn compared<F: FnOnce(u64) -> Comparison>(
     requires callable { F.IsAlwaysCallable comparison }
     ensures { ComparedAt (F.post comparison) text.now at result }
 {
-    if decimals::byte_at(text, at) != b' ' {
-        return None;
+    match decimals::byte_at(text, at) {
+        b' ' => {
+            let (literal, next) = decimals::read_number(text, at + 1, After::LineFeed, GREATEST_DECIMAL)?;
+            Some((comparison(literal), next))
+        }
+        _ => None,
     }
-    let (literal, next) = decimals::read_number(text, at + 1, After::LineFeed, GREATEST_DECIMAL)?;
-    Some((comparison(literal), next))
 }

@@ -12,7 +12,7 @@ ghost use Rattle.segment.specs.Steps.{LiteralSlice, FitPlan, BytesPlanned, Plann
 use limits::{LONGEST_SEGMENT, MOST_SLICES, MOST_TESTS, PLAN_PLACES, STANDING_PLACES};
 use query::Test;
 use register::Shape;
-use standings::{in_rows, last_all, open_row, rule_all, step};
+use standings::{NoMatch, RuledOut, in_rows, open_row, step, take_out_all};
 
 // The plan of a query, made once: where each test's column starts and how many slices it has, and the
 // low and high byte of its literal in each slice, four to a test.
@@ -141,10 +141,10 @@ pub fn scan_segment(
         if closed {
             break 'slices;
         }
-        rule_all(tests, count, &standings, &mut inside, n);
+        take_out_all::<RuledOut>(tests, count, &standings, &mut inside, n);
         j = j + 1;
     }
-    last_all(tests, count, &standings, &mut inside, n);
+    take_out_all::<NoMatch>(tests, count, &standings, &mut inside, n);
     Segment {
         found: inside,
         counts,

@@ -1,11 +1,12 @@
 // Row work: small functions whose result is stored without a condition, so that a loop over them
 // becomes vectors. A standing is a byte (0 equal so far, 1 less, 2 greater), and so is whether a row is
-// still in (1 or 0).
+// still in (1 or 0). They are bytes, and no enum, as what these loops become is vectors of bytes.
 
 #![tactic(auto)]
 
-ghost use Rattle.std.specs.Prelude.{◌≡◌, ℕ, ◌+◌, ◌*◌, ◌≤◌, ◌<◌, cond, ltb, length, get_or};
+ghost use Rattle.std.specs.Prelude.{◌≡◌, ℕ, Bool, ◌+◌, ◌*◌, ◌≤◌, ◌<◌, cond, ltb, length, get_or};
 ghost use Rattle.limits.specs.Limits.{most_tests, longest_segment, standing_places};
+ghost use Rattle.query.specs.declared.Comparison.{Comparison};
 ghost use Rattle.standings.specs.Standings.{stepped_row, open_row, rules_out_kept, fails_kept};
 ghost use Rattle.basis.specs.Sweeps.{Swept};
 ghost use Rattle.standings.specs.TakenOut.{taken_out_by, taken_out, taken_out_by_all};
@@ -44,35 +45,32 @@ fn left_row(standing: u8, bad: u8, inside: u8) -> u8
     if standing == bad { 0 } else { inside }
 }
 
-// 1 for each of n rows, 0 for every place after them.
+// 1 for each of n rows, 0 for every place after them. With `fill`, which stores the last one apart, scans
+// of segments of 32 and 64 rows were a twentieth slower.
 pub fn in_rows(n: usize) -> [u8; LONGEST_SEGMENT]
     requires { n ≤ longest_segment }
     ensures { (length result ≡ longest_segment) × ((k : ℕ) → get_or result k 0 ≡ cond (ltb k n) 1 0) }
 {
     let mut inside = [0u8; LONGEST_SEGMENT];
-    let mut r = 0;
-    while r < n {
+    for r in 0..n {
         inside[r] = 1;
-        r = r + 1;
     }
     inside
 }
 
-// Takes one slice for one test: the standings from a base on, by the part's bytes.
+// Takes one slice for one test: the standings from a base on, by the part's bytes. By an index, since of
+// what is written through a zip of `iter_mut` a proof knows no element.
 pub fn step(part: &[u8], standings: &mut [u8; STANDING_PLACES], base: usize, low: u8, high: u8)
     requires { (base + length part.now ≤ standing_places) × (length standings.old ≡ standing_places) }
     ensures { Swept standings.old standings.new base (length part.now)
         (λ k. stepped_row (get_or standings.old (base + k) 0) low high (get_or part.now k 0)) }
 {
-    let n = part.len();
-    let mut r = 0;
-    while r < n {
-        standings[base + r] = step_row(standings[base + r], part[r], low, high);
-        r = r + 1;
+    for (r, byte) in part.iter().enumerate() {
+        standings[base + r] = step_row(standings[base + r], *byte, low, high);
     }
 }
 
-// Takes out the rows whose standing is the bad one.
+// Takes out the rows whose standing is the bad one. By an index, as `step`.
 fn take_out(
     standings: &[u8; STANDING_PLACES],
     base: usize,
@@ -84,40 +82,78 @@ fn take_out(
     ensures { Swept inside.old inside.new 0 n
         (λ k. taken_out_by (get_or standings.now (base + k) 0) bad (get_or inside.old k 0)) }
 {
-    let mut r = 0;
-    while r < n {
-        inside[r] = left_row(standings[base + r], bad, inside[r]);
-        r = r + 1;
+    for (r, standing) in standings[base..base + n].iter().enumerate() {
+        inside[r] = left_row(*standing, bad, inside[r]);
     }
 }
 
-// Takes out the rows that a test rules out.
-fn rule(
-    comparison: Comparison,
-    standings: &[u8; STANDING_PLACES],
-    base: usize,
-    inside: &mut [u8; LONGEST_SEGMENT],
-    n: usize,
-)
-    requires { (base + n ≤ standing_places) × (n ≤ longest_segment) × (length inside.old ≡ longest_segment) }
-    ensures { Swept inside.old inside.new 0 n
-        (taken_out rules_out_kept comparison standings.now base inside.old) }
-{
-    match comparison {
-        Comparison::Less(_) => take_out(standings, base, inside, n, 2),
-        Comparison::AtMost(_) => take_out(standings, base, inside, n, 2),
-        Comparison::More(_) => take_out(standings, base, inside, n, 1),
-        Comparison::AtLeast(_) => take_out(standings, base, inside, n, 1),
-        Comparison::Equal(_) => {
-            take_out(standings, base, inside, n, 1);
-            take_out(standings, base, inside, n, 2);
+// Which rows a test takes out: those whose standing to it the ghost member says so of.
+pub trait Ruling {
+    ghost takes_out: { Comparison → ℕ → Bool };
+
+    // Takes out the rows that one test takes out.
+    fn rule(
+        comparison: Comparison,
+        standings: &[u8; STANDING_PLACES],
+        base: usize,
+        inside: &mut [u8; LONGEST_SEGMENT],
+        n: usize,
+    )
+        requires { (base + n ≤ standing_places) × (n ≤ longest_segment) × (length inside.old ≡ longest_segment) }
+        ensures { Swept inside.old inside.new 0 n
+            (taken_out takes_out comparison standings.now base inside.old) };
+}
+
+// After each slice, what a test rules out.
+pub struct RuledOut;
+
+impl Ruling for RuledOut {
+    ghost takes_out = { rules_out_kept };
+
+    fn rule(
+        comparison: Comparison,
+        standings: &[u8; STANDING_PLACES],
+        base: usize,
+        inside: &mut [u8; LONGEST_SEGMENT],
+        n: usize,
+    ) {
+        match comparison {
+            Comparison::Less(_) | Comparison::AtMost(_) => take_out(standings, base, inside, n, 2),
+            Comparison::More(_) | Comparison::AtLeast(_) => take_out(standings, base, inside, n, 1),
+            Comparison::Equal(_) => {
+                take_out(standings, base, inside, n, 1);
+                take_out(standings, base, inside, n, 2);
+            }
+            Comparison::Differs(_) => {}
         }
-        Comparison::Differs(_) => {}
     }
 }
 
-// Takes out the rows that some test rules out.
-pub fn rule_all(
+// After the last slice, what is equal to the end, where that is no match.
+pub struct NoMatch;
+
+impl Ruling for NoMatch {
+    ghost takes_out = { fails_kept };
+
+    fn rule(
+        comparison: Comparison,
+        standings: &[u8; STANDING_PLACES],
+        base: usize,
+        inside: &mut [u8; LONGEST_SEGMENT],
+        n: usize,
+    ) {
+        match comparison {
+            Comparison::Less(_) | Comparison::More(_) | Comparison::Differs(_) => {
+                take_out(standings, base, inside, n, 0);
+            }
+            Comparison::AtMost(_) | Comparison::AtLeast(_) | Comparison::Equal(_) => {}
+        }
+    }
+}
+
+// Takes out the rows that some test takes out. Each ruling has a loop of its own, with one caller, so that
+// it becomes part of it; one loop with a switch was slower with one test and short segments.
+pub fn take_out_all<R: Ruling>(
     tests: [Test; MOST_TESTS],
     count: usize,
     standings: &[u8; STANDING_PLACES],
@@ -126,57 +162,9 @@ pub fn rule_all(
 )
     requires { (count ≤ most_tests) × (n ≤ longest_segment) × (length inside.old ≡ longest_segment) }
     ensures { Swept inside.old inside.new 0 n
-        (taken_out_by_all rules_out_kept tests count standings.now inside.old) }
+        (taken_out_by_all R.takes_out tests count standings.now inside.old) }
 {
-    let mut t = 0;
-    while t < count {
-        let test = tests[t];
-        let comparison = test.comparison;
-        rule(comparison, standings, t * LONGEST_SEGMENT, inside, n);
-        t = t + 1;
-    }
-}
-
-// Takes out the rows that are equal to the end, where that is no match.
-fn last(
-    comparison: Comparison,
-    standings: &[u8; STANDING_PLACES],
-    base: usize,
-    inside: &mut [u8; LONGEST_SEGMENT],
-    n: usize,
-)
-    requires { (base + n ≤ standing_places) × (n ≤ longest_segment) × (length inside.old ≡ longest_segment) }
-    ensures { Swept inside.old inside.new 0 n
-        (taken_out fails_kept comparison standings.now base inside.old) }
-{
-    match comparison {
-        Comparison::Less(_) => take_out(standings, base, inside, n, 0),
-        Comparison::AtMost(_) => {}
-        Comparison::More(_) => take_out(standings, base, inside, n, 0),
-        Comparison::AtLeast(_) => {}
-        Comparison::Equal(_) => {}
-        Comparison::Differs(_) => take_out(standings, base, inside, n, 0),
-    }
-}
-
-// The same for all tests. This and `rule_all` are two loops, each with one caller, so that both become
-// part of it; one loop for both was slower with one test and short segments.
-pub fn last_all(
-    tests: [Test; MOST_TESTS],
-    count: usize,
-    standings: &[u8; STANDING_PLACES],
-    inside: &mut [u8; LONGEST_SEGMENT],
-    n: usize,
-)
-    requires { (count ≤ most_tests) × (n ≤ longest_segment) × (length inside.old ≡ longest_segment) }
-    ensures { Swept inside.old inside.new 0 n
-        (taken_out_by_all fails_kept tests count standings.now inside.old) }
-{
-    let mut t = 0;
-    while t < count {
-        let test = tests[t];
-        let comparison = test.comparison;
-        last(comparison, standings, t * LONGEST_SEGMENT, inside, n);
-        t = t + 1;
+    for (t, test) in tests[..count].iter().enumerate() {
+        R::rule(test.comparison, standings, t * LONGEST_SEGMENT, inside, n);
     }
 }

@@ -140,7 +140,7 @@ tests-preserved c =
 
 pub slices-preserved : goal.slices-preserved
 slices-preserved c =
-    (omega arith, next_slice (fit (goal.at.slices-preserved c).Start) (omega arith) c.tests.invariant.1 c.rule_all.ensures)
+    (omega arith, next_slice (fit (goal.at.slices-preserved c).Start) (omega arith) c.tests.invariant.1 c.take_out_all.ensures)
 
 -- where the loop over the slices is left, by its test or because all tests are closed, they have ended
 ended : (c : Left-slices) →
@@ -156,8 +156,9 @@ ended c =
           (same_progress w.standings-is w.counts-is (sym w.if-closed.true) w.tests.invariant.1)
     ]
 
-pub last_all-requires : goal.last_all-requires
-last_all-requires c = (c.requires.fit.judged.few, c.requires.fit.short, (ended (goal.at.last_all-requires c).Left-slices).reached.all_rows)
+pub take_out_all-requires-2 : goal.take_out_all-requires-2
+take_out_all-requires-2 c =
+    (c.requires.fit.judged.few, c.requires.fit.short, (ended (goal.at.take_out_all-requires-2 c).Left-slices).reached.all_rows)
 
 pub returns : goal.returns
-returns c = scanned (fit (goal.at.returns c).Start) (ended (goal.at.returns c).Left-slices) c.last_all.ensures
+returns c = scanned (fit (goal.at.returns c).Start) (ended (goal.at.returns c).Left-slices) c.take_out_all-2.ensures

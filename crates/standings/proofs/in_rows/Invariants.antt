@@ -1,12 +1,7 @@
--- What the loop of `in_rows` keeps, and what each turn makes less.
-use Prim.Native.Nat.{◌-◌, ◌≤◌}
-use lib.ListN.{replicate}
+-- What the loop of `in_rows` keeps: the rows up to one are 1, and what is ahead is 0. Assumes nothing.
+use Rattle.std.proofs.Common.{◌≡◌, ℕ, cond, ltb, length, get_or}
 use Rattle.limits.specs.Limits.{longest_segment}
-use Rattle.basis.specs.Sweeps.{Swept}
 use Rattle.standings.proofs.in_rows.Given as goal
 
 abbrev pub invariant-loop-r : goal.invariant-loop-r
-invariant-loop-r l = (l.r ≤ l.n) × Swept (replicate longest_segment 0) l.inside 0 l.r (λ k. 1)
-
-abbrev pub decreases-loop-r : goal.decreases-loop-r
-decreases-loop-r l = l.n - l.r
+invariant-loop-r l = (length l.inside ≡ longest_segment) × ((k : ℕ) → get_or l.inside k 0 ≡ cond (ltb k l.r) 1 0)

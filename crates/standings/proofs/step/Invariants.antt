@@ -1,17 +1,11 @@
--- What the loop of `step` keeps, and what each turn makes less.
-use Prim.Native.Nat.{ℕ, ◌+◌, ◌-◌, ◌≤◌}
-use mathlib.Core.List.{List}
-use lib.ListN.{length, get_or}
+-- What the loop of `step` keeps: the slice is taken up to a row. Assumes nothing.
+use Prim.Native.Nat.{◌+◌}
+use lib.ListN.{get_or}
 use Rattle.standings.specs.Standings.{stepped_row}
 use Rattle.basis.specs.Sweeps.{Swept}
 use Rattle.standings.proofs.step.Given as goal
 
-abbrev pub stepped_by : List ℕ → List ℕ → ℕ → ℕ → ℕ → ℕ → ℕ
-stepped_by part standings base low high k = stepped_row (get_or standings (base + k) 0) low high (get_or part k 0)
-
 abbrev pub invariant-loop-r : goal.invariant-loop-r
 invariant-loop-r l =
-    (l.r ≤ length l.part) × Swept l.initial.standings l.standings l.base l.r (stepped_by l.part l.initial.standings l.base l.low l.high)
-
-abbrev pub decreases-loop-r : goal.decreases-loop-r
-decreases-loop-r l = length l.part - l.r
+    Swept l.initial.standings l.standings l.base l.r
+    (λ k. stepped_row (get_or l.initial.standings (l.base + k) 0) l.low l.high (get_or l.part k 0))
