@@ -40,8 +40,7 @@ pub fn plan_of(file: &[u8], shape: Shape, tests: [Test; MOST_TESTS], count: usiz
     let mut slices = [0usize; MOST_TESTS];
     let mut lows = [0u8; PLAN_PLACES];
     let mut highs = [0u8; PLAN_PLACES];
-    let mut t = 0;
-    while t < count {
+    for t in 0..count {
         let test = tests[t];
         let column = test.column;
         let width = register::width_at(file, shape, column);
@@ -50,7 +49,6 @@ pub fn plan_of(file: &[u8], shape: Shape, tests: [Test; MOST_TESTS], count: usiz
         offsets[t] = register::offset_at(file, shape, column);
         slices[t] = codes::slices_of(width);
         plan_bytes(width, literal, &mut lows, &mut highs, t * MOST_SLICES);
-        t = t + 1;
     }
     Plan {
         offsets,
@@ -73,11 +71,9 @@ fn plan_bytes(
         lows.old lows.new highs.old highs.new }
 {
     let slices = codes::slices_of(width);
-    let mut j = 0;
-    while j < slices {
+    for j in 0..slices {
         lows[base + j] = codes::byte_of(width, literal, j);
         highs[base + j] = high_of(width, literal, j);
-        j = j + 1;
     }
 }
 
@@ -88,7 +84,7 @@ fn high_of(width: u8, literal: u64, slice: usize) -> u8
 {
     let low = codes::byte_of(width, literal, slice);
     if slice + 1 == codes::slices_of(width) {
-        (numbers::wide64(low) + (codes::unit_of(width) - 1)) as u8
+        (u64::from(low) + (codes::unit_of(width) - 1)) as u8
     } else {
         low
     }
@@ -114,35 +110,29 @@ pub fn scan_segment(
     let mut standings = [0u8; STANDING_PLACES];
     let mut inside = in_rows(n);
     let mut counts = [0usize; MOST_TESTS];
-    let mut j = 0;
-    'slices: while j < MOST_SLICES {
+    'slices: for j in 0..MOST_SLICES {
         let mut closed = true;
-        let mut t = 0;
-        'tests: while t < count {
+        'tests: for t in 0..count {
             if j < slices[t] {
                 let base = t * LONGEST_SEGMENT;
                 let mut open = 0u8;
-                let mut r = 0;
-                'rows: while r < n {
-                    open = open + open_row(standings[base + r], inside[r]);
-                    r = r + 1;
+                'rows: for r in 0..n {
+                    open += open_row(standings[base + r], inside[r]);
                 }
                 if 0 < open {
                     let from = offsets[t] + j * rows + first;
                     let low = lows[t * MOST_SLICES + j];
                     let high = highs[t * MOST_SLICES + j];
                     step(&file[from..from + n], &mut standings, base, low, high);
-                    counts[t] = counts[t] + n;
+                    counts[t] += n;
                     closed = false;
                 }
             }
-            t = t + 1;
         }
         if closed {
             break 'slices;
         }
         rule_all(tests, count, &standings, &mut inside, n);
-        j = j + 1;
     }
     last_all(tests, count, &standings, &mut inside, n);
     Segment {

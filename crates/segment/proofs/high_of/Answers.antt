@@ -14,10 +14,10 @@ use Rattle.segment.proofs.high_of.Goals.{After-unit_of}
 -- in the last slice, what is computed is the high
 high_here : (c : After-unit_of) →
     let a = c.args in
-    c.wide64.result + (c.unit_of.result - 1) ≡ high_of a.width a.slice (byte_of a.width a.literal a.slice)
+    c.from.result + (c.unit_of.result - 1) ≡ high_of a.width a.slice (byte_of a.width a.literal a.slice)
 high_here c =
     let a = c.args in
-    rw (c.wide64.ensures.same, c.unit_of.ensures, c.byte_of-low.ensures)
+    rw (c.from.ensures, c.unit_of.ensures, c.byte_of-low.ensures)
     (sym (high_last a.width a.slice _ (omega (arith, c.slices_of.ensures, c.if-slice-slices_of.true))))
 
 is_a_byte : (c : After-unit_of) →

@@ -1,5 +1,4 @@
--- What the loop of `plan_bytes` keeps, and what each turn makes less.
-use Prim.Native.Nat.{◌-◌, ◌≤◌}
+-- What the loop of `plan_bytes` keeps. Assumes nothing.
 use mathlib.Core.Path.{◌≡◌}
 use Rattle.codes.specs.Width.{slices_of}
 use Rattle.codes.specs.Bytes.{byte_of}
@@ -9,9 +8,6 @@ use Rattle.segment.proofs.plan_bytes.Given as goal
 
 abbrev pub invariant-loop-j : goal.invariant-loop-j
 invariant-loop-j l =
-    (l.j ≤ l.slices) × (l.slices ≡ slices_of l.width)
+    (l.slices ≡ slices_of l.width)
     × Swept l.initial.lows l.lows l.base l.j (λ k. byte_of l.width l.literal k)
     × Swept l.initial.highs l.highs l.base l.j (λ k. high_of l.width k (byte_of l.width l.literal k))
-
-abbrev pub decreases-loop-j : goal.decreases-loop-j
-decreases-loop-j l = l.slices - l.j

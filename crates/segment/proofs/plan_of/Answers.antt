@@ -17,7 +17,7 @@ literal_here c =
     rw (c.width_at-width.ensures, c.literal_of-literal.ensures) (fit_literal _ _ _ _ c.requires _ c.loop-t-test.true)
 
 pub loop-t-init : goal.loop-t-init
-loop-t-init c = (omega arith, planned_nothing _ _ _ _ _ _, (refl, refl, refl, refl))
+loop-t-init c = (planned_nothing _ _ _ _ _ _, (refl, refl, refl, refl))
 
 pub bounds-tests-t : goal.bounds-tests-t
 bounds-tests-t c = omega (arith, c.requires.few)
@@ -32,7 +32,7 @@ offset_at-requires c =
 
 pub plan_bytes-requires : goal.plan_bytes-requires
 plan_bytes-requires c =
-    let long = c.loop-t.invariant.2 in
+    let long = c.loop-t.invariant.1 in
     record {
       fit = literal_here (goal.at.plan_bytes-requires c).After-literal_of-literal;
       room = omega (arith, c.requires.few, c.loop-t-test.true);
@@ -42,9 +42,8 @@ plan_bytes-requires c =
 
 pub loop-t-preserved : goal.loop-t-preserved
 loop-t-preserved c =
-    let long = c.loop-t.invariant.2 in (
-      omega (arith, c.loop-t-test.true),
-      planned_one_more _ _ _ _ _ _ _ _ _ _ _ c.loop-t.invariant.1
+    let long = c.loop-t.invariant.1 in (
+      planned_one_more _ _ _ _ _ _ _ _ _ _ _ c.loop-t.invariant.0
           (λ u h. (width_as_opened _ _ c.requires.opened _ (c.requires.columns u (omega (arith, c.loop-t-test.true)))).1)
           (omega (arith, c.requires.few, c.loop-t-test.true)) (omega (arith, c.requires.few, c.loop-t-test.true))
           c.offset_at.ensures (c.slices_of.ensures ∙ ap slices_of c.width_at-width.ensures)
@@ -63,4 +62,4 @@ returns c =
     let turn = c.loop-t in
     let a = c.args in
     let end : turn.t ≡ a.count = omega (arith, c.loop-t-test.false) in
-    subst (λ (n : ℕ). Planned a.file.now a.tests n turn.offsets turn.slices turn.lows turn.highs) end turn.invariant.1
+    subst (λ (n : ℕ). Planned a.file.now a.tests n turn.offsets turn.slices turn.lows turn.highs) end turn.invariant.0

@@ -40,7 +40,7 @@ abbrev work_in : In-tests → Work
 work_in c = work_of c.args.file.now c.args.first c.args.n c.args.tests c.args.count
 
 so_far : (c : In-tests) → Progress (work_in c) c.slices.j c.tests.t c.tests.standings c.slices.inside c.tests.counts c.tests.closed
-so_far c = c.tests.invariant.1
+so_far c = c.tests.invariant
 
 -- where some row is open: where the segment's bytes of the slice begin
 abbrev from_of : In-tests → ℕ
@@ -67,7 +67,7 @@ long : (c : In-tests) → c.slices.j < get_or c.args.slices.now c.tests.t 0 → 
 long c has some = part_long _ _ _ (room c has some)
 
 pub slices-init : goal.slices-init
-slices-init c = (omega arith, begun (fit (goal.at.slices-init c).Start) c.in_rows-inside.ensures.0 c.in_rows-inside.ensures.1)
+slices-init c = begun (fit (goal.at.slices-init c).Start) c.in_rows-inside.ensures.0 c.in_rows-inside.ensures.1
 
 pub rows-preserved : goal.rows-preserved
 rows-preserved c =
@@ -75,7 +75,7 @@ rows-preserved c =
     let more : sum opened (below (c.rows.r + 1)) ≡ sum opened (below c.rows.r) + opened c.rows.r = rw add-one (sum_one_more opened c.rows.r) in
     let one : c.open_row-open.result ≤ 1 =
     rw c.open_row-open.ensures (search (open_at_most_one (so_far (goal.at.rows-preserved c).In-tests) c.tests-test.true, c.rows-test.true)) in
-    (omega arith, omega arith, omega (arith, more, c.open_row-open.ensures))
+    (omega arith, omega (arith, more, c.open_row-open.ensures))
 
 pub overflow_mul-from : goal.overflow_mul-from
 overflow_mul-from c = omega (arith, room (goal.at.overflow_mul-from c).In-tests c.if-j-slices.true (omega arith))
@@ -113,34 +113,32 @@ pub tests-preserved : goal.tests-preserved
 tests-preserved c =
     let turn = (goal.at.tests-preserved c).In-tests in
     let start = (goal.at.tests-preserved c).Start in
-    let next = c.tests-test.true in (
-      omega arith,
-      elim c.if-j-slices.branch [
-        | then-j-slices+else-rows-test+then-open-gt0 w ↦
-            let some : 0 < c.args.n = omega (arith, w.rows.invariant.0, w.rows.invariant.1, w.if-open-gt0.true) in
-            let all : w.rows.r ≡ c.args.n = omega (arith, w.rows.invariant.0, w.rows-test.false) in
-            same_progress w.standings-is w.counts-is w.closed-is
-            (taken (so_far turn) next (fit start)
-            (counts_it turn w.if-j-slices.true w.rows.«open» w.rows.r w.rows.invariant.2 all w.if-open-gt0.true) w.step.ensures
-            (long turn w.if-j-slices.true some)
-            (λ k h stands.
-            steps_right c.requires.fit c.requires.plan c.tests.t c.slices.j next (within turn w.if-j-slices.true) (fit start).there _ k h stands)
-            refl)
-        | then-j-slices+else-rows-test+else-open-gt0 w ↦
-            same_progress w.standings-is w.counts-is w.closed-is
-            (passed_over (so_far turn) next
-            (none_open (so_far turn) next w.rows.«open» w.rows.r w.rows.invariant.2 (omega (arith, w.rows.invariant.0, w.rows-test.false))
-            w.if-open-gt0.false))
-        | else-j-slices w ↦
-            same_progress w.standings-is w.counts-is w.closed-is
-            (passed_over (so_far turn) next
-            (takes_within (work_at start) c.tests.t c.slices.j (omega (arith, w.if-j-slices.false, c.requires.plan.so_many c.tests.t next))))
-      ],
-    )
+    let next = c.tests-test.true in
+    elim c.if-j-slices.branch [
+      | then-j-slices+else-rows-test+then-open-gt0 w ↦
+          let some : 0 < c.args.n = omega (arith, w.rows.invariant.0, w.if-open-gt0.true) in
+          let all : w.rows.r ≡ c.args.n = omega (arith, w.rows-test.false) in
+          same_progress w.standings-is w.counts-is w.closed-is
+          (taken (so_far turn) next (fit start)
+          (counts_it turn w.if-j-slices.true w.rows.«open» w.rows.r w.rows.invariant.1 all w.if-open-gt0.true) w.step.ensures
+          (long turn w.if-j-slices.true some)
+          (λ k h stands.
+          steps_right c.requires.fit c.requires.plan c.tests.t c.slices.j next (within turn w.if-j-slices.true) (fit start).there _ k h stands)
+          refl)
+      | then-j-slices+else-rows-test+else-open-gt0 w ↦
+          same_progress w.standings-is w.counts-is w.closed-is
+          (passed_over (so_far turn) next
+          (none_open (so_far turn) next w.rows.«open» w.rows.r w.rows.invariant.1 (omega (arith, w.rows-test.false))
+          w.if-open-gt0.false))
+      | else-j-slices w ↦
+          same_progress w.standings-is w.counts-is w.closed-is
+          (passed_over (so_far turn) next
+          (takes_within (work_at start) c.tests.t c.slices.j (omega (arith, w.if-j-slices.false, c.requires.plan.so_many c.tests.t next))))
+    ]
 
 pub slices-preserved : goal.slices-preserved
 slices-preserved c =
-    (omega arith, next_slice (fit (goal.at.slices-preserved c).Start) (omega arith) c.tests.invariant.1 c.rule_all.ensures)
+    next_slice (fit (goal.at.slices-preserved c).Start) (omega arith) c.tests.invariant c.rule_all.ensures
 
 -- where the loop over the slices is left, by its test or because all tests are closed, they have ended
 ended : (c : Left-slices) →
@@ -150,10 +148,10 @@ ended c =
     let fits = segment_fits c.requires.fit (omega arith) in
     elim c.slices-test.branch [
       | else-slices-test w ↦
-          ended_after_four fits w.slices-test.false (same_progress w.standings-is w.counts-is refl c.slices.invariant.1)
+          ended_after_four fits w.slices-test.false (same_progress w.standings-is w.counts-is refl c.slices.invariant)
       | then-slices-test+else-tests-test+then-closed w ↦
-          ended_closed fits (omega (arith, w.tests.invariant.0, w.tests-test.false))
-          (same_progress w.standings-is w.counts-is (sym w.if-closed.true) w.tests.invariant.1)
+          ended_closed fits (omega (arith, w.tests-test.false))
+          (same_progress w.standings-is w.counts-is (sym w.if-closed.true) w.tests.invariant)
     ]
 
 pub last_all-requires : goal.last_all-requires
