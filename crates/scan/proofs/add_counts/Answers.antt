@@ -7,21 +7,21 @@ use Rattle.basis.proofs.Sweeps.{swept_nothing}
 use Rattle.scan.proofs.add_counts.Goals as goal
 
 pub loop-t-init : goal.loop-t-init
-loop-t-init c = (omega arith, swept_nothing _ 0 _)
+loop-t-init c = swept_nothing _ 0 _
 
 pub overflow_add-counts : goal.overflow_add-counts
 overflow_add-counts c =
     let turn = c.loop-t in
     let small = c.requires.small turn.t (omega arith) in
-    omega (arith, turn.invariant.1.behind turn.t (omega arith))
+    omega (arith, turn.invariant.behind turn.t (omega arith))
 
 pub loop-t-preserved : goal.loop-t-preserved
 loop-t-preserved c =
     let turn = c.loop-t in
-    (omega arith, swept_next turn.invariant.1 (omega (arith, c.requires.whole)) (λ ahead. rw ahead))
+    swept_next turn.invariant (omega (arith, c.requires.whole)) (λ ahead. rw ahead)
 
 pub returns : goal.returns
 returns c =
     let turn = c.loop-t in
     let end : turn.t ≡ most_tests = omega arith in
-    rw end at turn.invariant.1
+    rw end at turn.invariant
