@@ -81,13 +81,16 @@ pub fn scan_rows(
     let rows = shape.rows;
     let mut counts = [0usize; MOST_TESTS];
     let mut matches: usize = 0;
-    for first in (0..rows).step_by(size) {
+    // a `for` over (0..rows).step_by(size) takes 5 % more instructions
+    let mut first = 0;
+    while first < rows {
         let n = size.min(rows - first);
         let segment = segment::scan_segment(
             file, rows, first, n, tests, count, &offsets, &slices, &lows, &highs,
         );
         add_counts(&mut counts, &segment.counts);
         matches += bits::put_bits(&segment.found, n, res, first / 8);
+        first += n;
     }
     let total = counts.iter().sum();
     Scanned {

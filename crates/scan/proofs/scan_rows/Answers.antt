@@ -1,8 +1,7 @@
 -- `scan::scan_rows` meets its contract: segment after segment, what is added up and put down is the schedule's of the rows done.
 -- Assumes nothing.
 --   few_rows, narrow_columns    the rows are few, and no column of a test is too wide
---   ended                       after the last segment all rows are done
-use Prim.Native.Nat.{ℕ, ◌+◌, ◌*◌, ◌≤◌, ◌<◌}
+use Prim.Native.Nat.{ℕ, ◌*◌, ◌≤◌, ◌<◌}
 use native.Mathlib.Omega.{arith}
 use mathlib.Core.Path.{◌≡◌, refl, ◌∙◌}
 use Rattle.limits.specs.Limits.{most_rows, most_slices, most_tests, widest}
@@ -16,10 +15,9 @@ use Rattle.std.specs.List as std
 use Rattle.std.proofs.lemmas.Iterator.{YieldsList-from_slice}
 use Rattle.std.proofs.lemmas.Iterator.Consumers.{fits_from_yields_list}
 use Rattle.scan.proofs.AllRows.{sum_by_number, sum_bounded, all_scanned, all_put}
-use Rattle.scan.proofs.RowsSoFar.{SoFar, nothing_yet, one_more_segment}
+use Rattle.scan.proofs.RowsSoFar.{nothing_yet, one_more_segment}
 use Rattle.scan.proofs.scan_rows.Goals as goal
-use Rattle.scan.proofs.scan_rows.Goals.{Start, Left-loop-first}
-use Rattle.scan.proofs.scan_rows.Goals.{else-loop-first-test, then-loop-first-test+else-size-rows}
+use Rattle.scan.proofs.scan_rows.Goals.{Start}
 
 few_rows : (c : Start) → c.args.shape.rows ≤ most_rows
 few_rows c = few_rows_as_opened _ _ c.requires.judged.opened
@@ -71,55 +69,35 @@ overflow_add-matches c =
     let so_far = matches_at_most _ _ _ _ _ (in_eighths _ c.requires.sized) _ _ _ _ _ c.loop-first.invariant in
     omega (arith, c.put_bits-matches.ensures.counted, few_rows (goal.at.overflow_add-matches c).Start, c.loop-first-test.true)
 
+pub overflow_add-first : goal.overflow_add-first
+overflow_add-first c = omega (arith, c.min-n.ensures, few_rows (goal.at.overflow_add-first c).Start, c.loop-first-test.true)
+
 pub loop-first-smaller : goal.loop-first-smaller
-loop-first-smaller c = let some = (in_eighths _ c.requires.sized).some in omega arith
+loop-first-smaller c = let some = (in_eighths _ c.requires.sized).some in omega (arith, c.min-n.ensures, c.loop-first-test.true)
 
 pub loop-first-preserved : goal.loop-first-preserved
 loop-first-preserved c =
-    let full : c.min-n.result ≡ c.args.size = omega (arith, c.min-n.ensures) in
-    rw full at
-    (one_more_segment _ _ _ _ _ (in_eighths _ c.requires.sized) c.requires.judged.few _ _ _ _ _ c.loop-first.invariant c.loop-first-test.true
+    one_more_segment _ _ _ _ _ (in_eighths _ c.requires.sized) c.requires.judged.few _ _ _ _ _ c.loop-first.invariant c.loop-first-test.true
     _ c.min-n.ensures _ c.scan_segment-segment.ensures _ _ _ c.add_counts.ensures c.put_bits-matches.ensures.counted
-    c.put_bits-matches.ensures.left c.requires.room)
-
-ended : (c : Left-loop-first) →
-    (first : ℕ) × (c.args.shape.rows ≤ first)
-    × SoFar c.args.file.now c.args.tests c.args.count c.args.size c.args.shape.rows c.args.res.now c.loop-first-test.res
-    c.loop-first-test.counts c.loop-first-test.matches first
-ended c =
-    elim c.loop-first-test.branch [
-      | else-loop-first-test w ↦
-          (c.loop-first.first, w.loop-first-test.false, rw (w.res-is, w.counts-is, w.matches-is) c.loop-first.invariant)
-      | then-loop-first-test+else-size-rows w ↦ (
-        c.loop-first.first + w.min-n.result,
-        omega (arith, w.min-n.ensures),
-        rw (w.res-is, w.counts-is, w.matches-is)
-            (one_more_segment _ _ _ _ _ (in_eighths _ c.requires.sized) c.requires.judged.few _ _ _ _ _ c.loop-first.invariant w.loop-first-test.true
-            _ w.min-n.ensures _ w.scan_segment-segment.ensures _ _ _ w.add_counts.ensures w.put_bits-matches.ensures.counted
-            w.put_bits-matches.ensures.left c.requires.room),
-      )
-    ]
-
-pub nonzero_div-size : goal.nonzero_div-size
-nonzero_div-size c = (in_eighths _ c.requires.sized).some
+    c.put_bits-matches.ensures.left c.requires.room
 
 pub sum-total-requires-clause-fits : goal.sum-total-requires-clause-fits
 sum-total-requires-clause-fits c =
     let start = (goal.at.sum-total-requires-clause-fits c).Start in
-    let far = (ended (goal.at.sum-total-requires-clause-fits c).Left-loop-first).2 in
+    let far = c.loop-first.invariant in
     let small =
-    sum_bounded c.loop-first-test.counts (most_rows * most_slices) most_tests far.sixteen
+    sum_bounded c.loop-first.counts (most_rows * most_slices) most_tests far.sixteen
     (counts_small _ _ _ _ _ (in_eighths _ c.requires.sized) _ _ _ _ _ far (few_rows start) (narrow_columns start)) in
-    fits_from_yields_list c.iter.result _ (YieldsList-from_slice c.loop-first-test.counts cc) (omega arith)
+    fits_from_yields_list c.iter.result _ (YieldsList-from_slice c.loop-first.counts cc) (omega arith)
 
 pub returns : goal.returns
 returns c =
-    let far = ended (goal.at.returns c).Left-loop-first in
+    let far = c.loop-first.invariant in
     let same = rows_as_opened _ _ c.requires.judged.opened in
     let sized = in_eighths _ c.requires.sized in
     let few = c.requires.judged.few in
-    let summed : c.sum-total.result ≡ std.sum c.loop-first-test.counts = search rules in
+    let summed : c.sum-total.result ≡ std.sum c.loop-first.counts = search rules in
     record {
-      answer = all_scanned _ _ _ _ _ same sized few (omega arith) _ _ _ _ _ far.2 far.1 _ (summed ∙ sum_by_number _ _ far.2.sixteen) refl;
-      left = all_put _ _ _ _ _ same sized few (omega arith) _ _ _ _ _ far.2 far.1;
+      answer = all_scanned _ _ _ _ _ same sized few (omega arith) _ _ _ _ _ far c.loop-first-test.false _ (summed ∙ sum_by_number _ _ far.sixteen) refl;
+      left = all_put _ _ _ _ _ same sized few (omega arith) _ _ _ _ _ far c.loop-first-test.false;
     }
