@@ -74,10 +74,6 @@ pub fn scan_rows(
     ensures left { res.new ≡ laid res.old 0 (found_bits file.now (asked tests count)) }
 {
     let plan = segment::plan_of(file, shape, tests, count);
-    let offsets = plan.offsets;
-    let slices = plan.slices;
-    let lows = plan.lows;
-    let highs = plan.highs;
     let rows = shape.rows;
     let mut counts = [0usize; MOST_TESTS];
     let mut matches: usize = 0;
@@ -85,9 +81,7 @@ pub fn scan_rows(
     let mut first = 0;
     while first < rows {
         let n = size.min(rows - first);
-        let segment = segment::scan_segment(
-            file, rows, first, n, tests, count, &offsets, &slices, &lows, &highs,
-        );
+        let segment = segment::scan_segment(file, rows, first, n, tests, count, &plan);
         add_counts(&mut counts, &segment.counts);
         matches += bits::put_bits(&segment.found, n, res, first / 8);
         first += n;

@@ -38,7 +38,7 @@ scan_segment-segment-requires c =
         short = omega (arith, c.min-n.ensures);
         within = omega (arith, c.min-n.ensures, c.loop-first-test.true);
       };
-      plan = c.plan_of-plan.ensures;
+      planned = c.plan_of-plan.ensures;
     }
 
 pub add_counts-requires : goal.add_counts-requires

@@ -10,11 +10,12 @@ use native.Mathlib.Omega.{arith}
 use native.Mathlib.Numerals.{add-one}
 use mathlib.Core.Path.{◌≡◌, refl, sym}
 use mathlib.Core.Bool.{true}
-use lib.ListN.{length, get_or, take, drop}
+use lib.ListN.{length, take, drop}
 use Rattle.limits.specs.Limits.{longest_segment}
 use Rattle.basis.specs.Lists.{sum, below}
 use Rattle.basis.proofs.Lists.{sum_one_more}
 use Rattle.codes.specs.Width.{slices_of}
+use Rattle.segment.specs.Steps.{column_at}
 use Rattle.segment.proofs.Work as work
 use Rattle.segment.proofs.Work.{Work, FitWork, takes, counted_few, takes_within}
 use Rattle.segment.proofs.Progress.{Progress, same_progress, begun, passed_over, taken, next_slice}
@@ -25,7 +26,7 @@ use Rattle.segment.proofs.Stepping.{has_slice, bytes_within, steps_right}
 use Rattle.segment.proofs.scan_segment.Invariants.{work_of}
 use Rattle.segment.proofs.scan_segment.Goals as goal
 use Rattle.segment.proofs.scan_segment.Goals.{Start, In-tests, After-open_row-open, Left-slices}
-use Rattle.segment.proofs.scan_segment.Goals.{then-j-slices+else-rows-test+then-open-gt0, then-j-slices+else-rows-test+else-open-gt0, else-j-slices}
+use Rattle.segment.proofs.scan_segment.Goals.{then-j-column+else-rows-test+then-open-gt0, then-j-column+else-rows-test+else-open-gt0, else-j-column}
 use Rattle.segment.proofs.scan_segment.Goals.{else-slices-test, then-slices-test+else-tests-test+then-closed}
 
 -- the work on the segment, which is fit
@@ -44,25 +45,25 @@ so_far c = c.tests.invariant
 
 -- where some row is open: where the segment's bytes of the slice begin
 abbrev from_of : In-tests → ℕ
-from_of c = get_or c.args.offsets.now c.tests.t 0 + c.slices.j * c.args.rows + c.args.first
+from_of c = (column_at c.args.plan.now c.tests.t).offset + c.slices.j * c.args.rows + c.args.first
 
 -- the test has the slice,
-within : (c : In-tests) → c.slices.j < get_or c.args.slices.now c.tests.t 0 →
+within : (c : In-tests) → c.slices.j < (column_at c.args.plan.now c.tests.t).slices →
     c.slices.j < slices_of (work.test_of (work_in c) c.tests.t).width
-within c has = has_slice c.requires.fit c.requires.plan c.tests.t c.slices.j c.tests-test.true has
+within c has = has_slice c.requires.fit c.requires.planned c.tests.t c.slices.j c.tests-test.true has
 
 -- the slice counts for it,
-counts_it : (c : In-tests) → c.slices.j < get_or c.args.slices.now c.tests.t 0 → («open» r : ℕ) →
+counts_it : (c : In-tests) → c.slices.j < (column_at c.args.plan.now c.tests.t).slices → («open» r : ℕ) →
     «open» ≡ sum (open_in c.tests.standings (c.tests.t * longest_segment) c.slices.inside) (below r) → r ≡ c.args.n → 0 < «open» →
     takes (work_in c) c.tests.t c.slices.j ≡ true
 counts_it c has «open» r counted all some = some_open (so_far c) c.tests-test.true «open» r counted all some (within c has)
 
 -- and the bytes lie in the file, so many of them
-room : (c : In-tests) → c.slices.j < get_or c.args.slices.now c.tests.t 0 → 0 < c.args.n →
+room : (c : In-tests) → c.slices.j < (column_at c.args.plan.now c.tests.t).slices → 0 < c.args.n →
     from_of c + c.args.n ≤ length c.args.file.now
-room c has some = bytes_within c.requires.fit c.requires.plan c.tests.t c.slices.j c.tests-test.true (within c has) some
+room c has some = bytes_within c.requires.fit c.requires.planned c.tests.t c.slices.j c.tests-test.true (within c has) some
 
-long : (c : In-tests) → c.slices.j < get_or c.args.slices.now c.tests.t 0 → 0 < c.args.n →
+long : (c : In-tests) → c.slices.j < (column_at c.args.plan.now c.tests.t).slices → 0 < c.args.n →
     length (take (from_of c + c.args.n - from_of c) (drop (from_of c) c.args.file.now)) ≡ c.args.n
 long c has some = part_long _ _ _ (room c has some)
 
@@ -78,26 +79,26 @@ rows-preserved c =
     (omega arith, omega (arith, more, c.open_row-open.ensures))
 
 pub overflow_mul-from : goal.overflow_mul-from
-overflow_mul-from c = omega (arith, room (goal.at.overflow_mul-from c).In-tests c.if-j-slices.true (omega arith))
+overflow_mul-from c = omega (arith, room (goal.at.overflow_mul-from c).In-tests c.if-j-column.true (omega arith))
 
 pub overflow_add-from : goal.overflow_add-from
-overflow_add-from c = omega (arith, room (goal.at.overflow_add-from c).In-tests c.if-j-slices.true (omega arith))
+overflow_add-from c = omega (arith, room (goal.at.overflow_add-from c).In-tests c.if-j-column.true (omega arith))
 
 pub overflow_add-from-then-open-gt0 : goal.overflow_add-from-then-open-gt0
 overflow_add-from-then-open-gt0 c =
-    omega (arith, room (goal.at.overflow_add-from-then-open-gt0 c).In-tests c.if-j-slices.true (omega arith))
+    omega (arith, room (goal.at.overflow_add-from-then-open-gt0 c).In-tests c.if-j-column.true (omega arith))
 
 pub overflow_add-from-then-open-gt0-2 : goal.overflow_add-from-then-open-gt0-2
 overflow_add-from-then-open-gt0-2 c =
-    omega (arith, room (goal.at.overflow_add-from-then-open-gt0-2 c).In-tests c.if-j-slices.true (omega arith))
+    omega (arith, room (goal.at.overflow_add-from-then-open-gt0-2 c).In-tests c.if-j-column.true (omega arith))
 
 pub slice_bounds-step-end : goal.slice_bounds-step-end
-slice_bounds-step-end c = omega (arith, room (goal.at.slice_bounds-step-end c).In-tests c.if-j-slices.true (omega arith))
+slice_bounds-step-end c = omega (arith, room (goal.at.slice_bounds-step-end c).In-tests c.if-j-column.true (omega arith))
 
 pub step-requires : goal.step-requires
 step-requires c =
     let turn = (goal.at.step-requires c).In-tests in (
-      omega (arith, long turn c.if-j-slices.true (omega arith), c.requires.fit.short, c.requires.fit.judged.few),
+      omega (arith, long turn c.if-j-column.true (omega arith), c.requires.fit.short, c.requires.fit.judged.few),
       (so_far turn).all_standings,
     )
 
@@ -114,26 +115,26 @@ tests-preserved c =
     let turn = (goal.at.tests-preserved c).In-tests in
     let start = (goal.at.tests-preserved c).Start in
     let next = c.tests-test.true in
-    elim c.if-j-slices.branch [
-      | then-j-slices+else-rows-test+then-open-gt0 w ↦
+    elim c.if-j-column.branch [
+      | then-j-column+else-rows-test+then-open-gt0 w ↦
           let some : 0 < c.args.n = omega (arith, w.rows.invariant.0, w.if-open-gt0.true) in
           let all : w.rows.r ≡ c.args.n = omega (arith, w.rows-test.false) in
           same_progress w.standings-is w.counts-is w.closed-is
           (taken (so_far turn) next (fit start)
-          (counts_it turn w.if-j-slices.true w.rows.«open» w.rows.r w.rows.invariant.1 all w.if-open-gt0.true) w.step.ensures
-          (long turn w.if-j-slices.true some)
+          (counts_it turn w.if-j-column.true w.rows.«open» w.rows.r w.rows.invariant.1 all w.if-open-gt0.true) w.step.ensures
+          (long turn w.if-j-column.true some)
           (λ k h stands.
-          steps_right c.requires.fit c.requires.plan c.tests.t c.slices.j next (within turn w.if-j-slices.true) (fit start).there _ k h stands)
+          steps_right c.requires.fit c.requires.planned c.tests.t c.slices.j next (within turn w.if-j-column.true) (fit start).there _ k h stands)
           refl)
-      | then-j-slices+else-rows-test+else-open-gt0 w ↦
+      | then-j-column+else-rows-test+else-open-gt0 w ↦
           same_progress w.standings-is w.counts-is w.closed-is
           (passed_over (so_far turn) next
           (none_open (so_far turn) next w.rows.«open» w.rows.r w.rows.invariant.1 (omega (arith, w.rows-test.false))
           w.if-open-gt0.false))
-      | else-j-slices w ↦
+      | else-j-column w ↦
           same_progress w.standings-is w.counts-is w.closed-is
           (passed_over (so_far turn) next
-          (takes_within (work_at start) c.tests.t c.slices.j (omega (arith, w.if-j-slices.false, c.requires.plan.so_many c.tests.t next))))
+          (takes_within (work_at start) c.tests.t c.slices.j (omega (arith, w.if-j-column.false, (c.requires.planned.columns c.tests.t next).so_many))))
     ]
 
 pub slices-preserved : goal.slices-preserved
