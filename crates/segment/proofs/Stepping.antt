@@ -28,11 +28,11 @@ module _ {file : List ℕ} {rows first n : ℕ} {tests : List Test} {count : ℕ
   pub has_slice : j < (column_at plan t).slices → j < slices_of (width_in file (test_at tests t).column)
   has_slice h = omega (arith, (planned.columns t next).so_many)
 
-  module _ (within : j < slices_of (width_in file (test_at tests t).column)) where
-    -- in the file
-    pub bytes_within : 0 < n → (column_at plan t).offset + j * rows + first + n ≤ length file
-    bytes_within some = rw (planned.columns t next).at_offset (part_within fit t j next within some)
+  -- in the file
+  pub bytes_within : j < (column_at plan t).slices → 0 < n → (column_at plan t).offset + j * rows + first + n ≤ length file
+  bytes_within has some = rw (planned.columns t next).at_offset (part_within fit t j next (has_slice has) some)
 
+  module _ (within : j < slices_of (width_in file (test_at tests t).column)) where
     -- a row's byte by the plan's low and high
     pub steps_right : count ≤ length tests → (s k : ℕ) → k < n →
         let g : Work = record { file = file; tests = tests; count = count; first = first; n = n } in

@@ -29,9 +29,6 @@ is_a_byte c =
 pub overflow_add-slice : goal.overflow_add-slice
 overflow_add-slice c = omega (arith, few_slices_of c.args.width c.requires.fit.narrow)
 
-pub overflow_sub-result : goal.overflow_sub-result
-overflow_sub-result c = omega (arith, c.unit_of.ensures, pow_pos (pad_of c.args.width))
-
 pub overflow_add-result : goal.overflow_add-result
 overflow_add-result c = omega (arith, high_here c, is_a_byte c)
 

@@ -25,7 +25,7 @@ use Rattle.segment.proofs.Parts.{segment_fits, part_long}
 use Rattle.segment.proofs.Stepping.{has_slice, bytes_within, steps_right}
 use Rattle.segment.proofs.scan_segment.Invariants.{work_of}
 use Rattle.segment.proofs.scan_segment.Goals as goal
-use Rattle.segment.proofs.scan_segment.Goals.{Start, In-tests, After-open_row-open, Left-slices}
+use Rattle.segment.proofs.scan_segment.Goals.{Start, In-tests, Then-open-gt0, Left-slices}
 use Rattle.segment.proofs.scan_segment.Goals.{then-j-column+else-rows-test+then-open-gt0, then-j-column+else-rows-test+else-open-gt0, else-j-column}
 use Rattle.segment.proofs.scan_segment.Goals.{else-slices-test, then-slices-test+else-tests-test+then-closed}
 
@@ -58,14 +58,15 @@ counts_it : (c : In-tests) → c.slices.j < (column_at c.args.plan.now c.tests.t
     takes (work_in c) c.tests.t c.slices.j ≡ true
 counts_it c has «open» r counted all some = some_open (so_far c) c.tests-test.true «open» r counted all some (within c has)
 
--- and the bytes lie in the file, so many of them
-room : (c : In-tests) → c.slices.j < (column_at c.args.plan.now c.tests.t).slices → 0 < c.args.n →
-    from_of c + c.args.n ≤ length c.args.file.now
-room c has some = bytes_within c.requires.fit c.requires.planned c.tests.t c.slices.j c.tests-test.true (within c has) some
-
+-- and so many bytes are the segment's
 long : (c : In-tests) → c.slices.j < (column_at c.args.plan.now c.tests.t).slices → 0 < c.args.n →
     length (take (from_of c + c.args.n - from_of c) (drop (from_of c) c.args.file.now)) ≡ c.args.n
-long c has some = part_long _ _ _ (room c has some)
+long c has some =
+    part_long _ _ _ (bytes_within c.requires.fit c.requires.planned c.tests.t c.slices.j c.tests-test.true has some)
+
+-- which lie in the file
+room : (c : Then-open-gt0) → (column_at c.args.plan.now c.tests.t).offset + c.slices.j * c.args.rows + c.args.first + c.args.n ≤ length c.args.file.now
+room c = bytes_within c.requires.fit c.requires.planned c.tests.t c.slices.j c.tests-test.true c.if-j-column.true (omega arith)
 
 pub slices-init : goal.slices-init
 slices-init c = begun (fit (goal.at.slices-init c).Start) c.in_rows-inside.ensures.0 c.in_rows-inside.ensures.1
@@ -79,28 +80,19 @@ rows-preserved c =
     (omega arith, omega (arith, more, c.open_row-open.ensures))
 
 pub overflow_mul-from : goal.overflow_mul-from
-overflow_mul-from c = omega (arith, room (goal.at.overflow_mul-from c).In-tests c.if-j-column.true (omega arith))
+overflow_mul-from c = omega (arith, room (goal.at.overflow_mul-from c).Then-open-gt0)
 
 pub overflow_add-from : goal.overflow_add-from
-overflow_add-from c = omega (arith, room (goal.at.overflow_add-from c).In-tests c.if-j-column.true (omega arith))
+overflow_add-from c = omega (arith, room (goal.at.overflow_add-from c).Then-open-gt0)
 
 pub overflow_add-from-then-open-gt0 : goal.overflow_add-from-then-open-gt0
-overflow_add-from-then-open-gt0 c =
-    omega (arith, room (goal.at.overflow_add-from-then-open-gt0 c).In-tests c.if-j-column.true (omega arith))
+overflow_add-from-then-open-gt0 c = omega (arith, room (goal.at.overflow_add-from-then-open-gt0 c).Then-open-gt0)
 
 pub overflow_add-from-then-open-gt0-2 : goal.overflow_add-from-then-open-gt0-2
-overflow_add-from-then-open-gt0-2 c =
-    omega (arith, room (goal.at.overflow_add-from-then-open-gt0-2 c).In-tests c.if-j-column.true (omega arith))
+overflow_add-from-then-open-gt0-2 c = omega (arith, room (goal.at.overflow_add-from-then-open-gt0-2 c).Then-open-gt0)
 
 pub slice_bounds-step-end : goal.slice_bounds-step-end
-slice_bounds-step-end c = omega (arith, room (goal.at.slice_bounds-step-end c).In-tests c.if-j-column.true (omega arith))
-
-pub step-requires : goal.step-requires
-step-requires c =
-    let turn = (goal.at.step-requires c).In-tests in (
-      omega (arith, long turn c.if-j-column.true (omega arith), c.requires.fit.short, c.requires.fit.judged.few),
-      (so_far turn).all_standings,
-    )
+slice_bounds-step-end c = omega (arith, room (goal.at.slice_bounds-step-end c).Then-open-gt0)
 
 pub overflow_add-counts : goal.overflow_add-counts
 overflow_add-counts c =
@@ -154,9 +146,6 @@ ended c =
           ended_closed fits (omega (arith, w.tests-test.false))
           (same_progress w.standings-is w.counts-is (sym w.if-closed.true) w.tests.invariant)
     ]
-
-pub last_all-requires : goal.last_all-requires
-last_all-requires c = (c.requires.fit.judged.few, c.requires.fit.short, (ended (goal.at.last_all-requires c).Left-slices).reached.all_rows)
 
 pub returns : goal.returns
 returns c = scanned (fit (goal.at.returns c).Start) (ended (goal.at.returns c).Left-slices) c.last_all.ensures
