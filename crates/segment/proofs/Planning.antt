@@ -20,7 +20,7 @@ use Rattle.query.specs.Tests.{literal_of, test_at}
 use Rattle.asking.specs.Judged.{Judged}
 use Rattle.segment.specs.declared.Bounds.{Bounds}
 use Rattle.segment.specs.declared.Column.{Column}
-use Rattle.segment.specs.Steps.{FitLiteral, BytesPlanned, ColumnPlanned, Planned, no_bounds, bounds_at, no_column}
+use Rattle.segment.specs.Steps.{FitLiteral, BytesPlanned, ColumnPlanned, Planned, no_bounds, no_column}
 
 module _ (file : List ℕ) (shape : Shape) (tests : List Test) (count : ℕ) (fit : Judged file shape tests count) (t : ℕ) (h : t < count) where
   pub fit_literal : FitLiteral (width_in file (test_at tests t).column) (literal_of (test_at tests t).comparison)

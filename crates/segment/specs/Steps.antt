@@ -1,5 +1,5 @@
 -- What scanning a segment may rely on, and what it answers. Assumes nothing.
-use Rattle.std.specs.Prelude.{ℕ, ◌+◌, ◌*◌, ◌^◌, ◌≤◌, ◌<◌, ◌≡◌, List, [], cond, length, get_or}
+use Rattle.std.specs.Prelude.{ℕ, ◌+◌, ◌^◌, ◌≤◌, ◌<◌, ◌≡◌, List, [], cond, length, get_or}
 use Rattle.basis.specs.Lists.{run}
 use Rattle.limits.specs.Limits.{widest, most_tests, longest_segment}
 use Rattle.codes.specs.Width.{slices_of}

@@ -2,10 +2,8 @@
 use Prim.Native.Nat.{◌+◌, ◌-◌, ◌<◌}
 use native.Mathlib.Omega.{arith}
 use mathlib.Core.Path.{◌≡◌, sym, ◌∙◌}
-use lib.Pow.{pow_pos}
 use Rattle.codes.specs.Bytes.{byte_of}
 use Rattle.codes.specs.Pad.{high_of}
-use Rattle.codes.specs.Width.{pad_of}
 use Rattle.codes.proofs.Width.{few_slices_of}
 use Rattle.codes.proofs.LowHigh.{high_last, high_before, high_is_a_byte}
 use Rattle.segment.proofs.high_of.Goals as goal

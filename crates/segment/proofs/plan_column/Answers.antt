@@ -1,7 +1,5 @@
 -- `segment::plan_column` meets its contract: the low and the high bytes of the slices passed stand. Assumes nothing.
-use Prim.Native.Nat.{◌<◌}
 use native.Mathlib.Omega.{arith}
-use mathlib.Core.Path.{◌≡◌}
 use lib.ListN.{length-set}
 use Rattle.codes.proofs.Width.{few_slices_of}
 use Rattle.segment.proofs.Planning.{bytes_one_more}

@@ -1,6 +1,5 @@
 -- `segment::plan_of` meets its contract: the plan of the tests passed stands, and each turn puts the next test's behind it.
 -- Assumes nothing.
-use Prim.Native.Nat.{◌<◌}
 use native.Mathlib.Omega.{arith}
 use lib.ListN.{length-set}
 use Rattle.segment.proofs.Planning.{fit_literal, planned_one_more}
