@@ -69,9 +69,6 @@ overflow_add-matches c =
     let so_far = matches_at_most _ _ _ _ _ (in_eighths _ c.requires.sized) _ _ _ _ _ c.loop-first.invariant in
     omega (arith, c.put_bits-matches.ensures.counted, few_rows (goal.at.overflow_add-matches c).Start, c.loop-first-test.true)
 
-pub overflow_add-first : goal.overflow_add-first
-overflow_add-first c = omega (arith, c.min-n.ensures, few_rows (goal.at.overflow_add-first c).Start, c.loop-first-test.true)
-
 pub loop-first-smaller : goal.loop-first-smaller
 loop-first-smaller c = let some = (in_eighths _ c.requires.sized).some in omega (arith, c.min-n.ensures, c.loop-first-test.true)
 
