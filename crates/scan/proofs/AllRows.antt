@@ -1,19 +1,23 @@
 -- When all rows are done, what was added up is the schedule's answer. Assumes nothing.
+--   sum_by_number        the sum of a list, by its places
+--   sum_bounded          is no more than a bound on each, so many times
 --   slots_are            sixteen numbers, those of the tests and then zeros, are the slots of the reply
 --   sum_of_slots         their sum is the sum over the tests
 --   all_scanned          so the reply is the accepted one
 --   all_put              and the result holds the bits of all rows
-use Prim.Native.Nat.{ℕ, ◌≤◌, ◌<◌}
+use Prim.Native.Nat.{ℕ, ◌*◌, ◌≤◌, ◌<◌}
 use native.Mathlib.Omega.{arith}
-use mathlib.Core.Path.{◌≡◌, sym, ap, ◌∙◌}
+use mathlib.Core.Path.{◌≡◌, refl, sym, ap, ◌∙◌}
 use mathlib.Core.Logic.{◌⊎◌, inl, inr}
 use mathlib.Core.List.{List, map}
 use mathlib.Core.Bool.{cond}
 use lib.ListN.{length, get_or, take, length-map}
-use lib.Seq.{ext_get_or, get_or-take, length-take-le}
+use lib.Seq.{take-length, ext_get_or, get_or-take, length-take-le}
+use Rattle.std.specs.List as std
+use Rattle.std.proofs.lemmas.List.Recursion.{is_sum_by}
 use Rattle.basis.specs.Lists.{sum, below}
 use Rattle.basis.specs.Buffers.{laid}
-use Rattle.basis.proofs.Lists.{mapped_in_place}
+use Rattle.basis.proofs.Lists.{mapped_in_place, sum_at_most}
 use Rattle.basis.proofs.Members.{sum_each_same, sum_mapped}
 use Rattle.basis.proofs.Runs.{within_or_past, in_below, sum_ends, taken_by_number}
 use Rattle.directory.specs.File.{rows_in}
@@ -32,6 +36,15 @@ use Rattle.asking.specs.Judged.{asked}
 use Rattle.asking.proofs.Sizes.{Eighths}
 use Rattle.scan.proofs.SegmentSums.{found_in, counted_in_all}
 use Rattle.scan.proofs.RowsSoFar.{SoFar}
+
+pub sum_by_number : (xs : List ℕ) (n : ℕ) → length xs ≡ n → std.sum xs ≡ sum (λ t. get_or xs t 0) (below n)
+sum_by_number xs n long =
+    sym (is_sum_by (sum (λ x. x)) (λ x. x) refl (λ x ys. refl) xs)
+    ∙ ap (sum (λ x. x)) (sym (rw (← long) (take-length xs)) ∙ taken_by_number xs n 0 (omega arith))
+    ∙ sum_mapped (λ x. x) (λ t. get_or xs t 0) (below n)
+
+pub sum_bounded : (xs : List ℕ) (most n : ℕ) → length xs ≡ n → ((t : ℕ) → get_or xs t 0 ≤ most) → std.sum xs ≤ most * n
+sum_bounded xs most n long each = rw (sum_by_number xs n long) (sum_at_most (λ t. get_or xs t 0) most n (λ t h. each t))
 
 pub slots_are : (counts numbers : List ℕ) → length counts ≡ most_tests → length numbers ≤ most_tests →
     ((t : ℕ) → t < length numbers → get_or counts t 0 ≡ get_or numbers t 0) →

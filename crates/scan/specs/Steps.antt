@@ -13,10 +13,7 @@ pub record ScanFit (file : List ℕ) (shape : Shape) (size : ℕ) (tests : List 
   pub sized : unfit_size size ≡ false
   pub room : bytes_for shape.rows ≤ length result
 
--- counts of no more than every slice of every row, so that their sum is far from the edge
-abbrev pub Small : List ℕ → Type 0
-Small counts = (t : ℕ) → t < most_tests → get_or counts t 0 ≤ most_rows * most_slices
-
+-- sums of no more than every slice of every row, which are far from the edge
 abbrev pub SmallSums : List ℕ → List ℕ → Type 0
 SmallSums counts read = (t : ℕ) → t < most_tests → get_or counts t 0 + get_or read t 0 ≤ most_rows * most_slices
 

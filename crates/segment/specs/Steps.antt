@@ -1,8 +1,7 @@
 -- What scanning a segment may rely on, and what it answers. Assumes nothing.
-use Rattle.std.specs.Prelude.{ℕ, ◌+◌, ◌*◌, ◌^◌, ◌≤◌, ◌<◌, ◌≡◌, List, cond, length, get_or}
+use Rattle.std.specs.Prelude.{ℕ, ◌+◌, ◌^◌, ◌≤◌, ◌<◌, ◌≡◌, List, [], cond, length, get_or}
 use Rattle.basis.specs.Lists.{run}
-use Rattle.basis.specs.Sweeps.{Swept}
-use Rattle.limits.specs.Limits.{widest, most_slices, most_tests, longest_segment, plan_places}
+use Rattle.limits.specs.Limits.{widest, most_tests, longest_segment}
 use Rattle.codes.specs.Width.{slices_of}
 use Rattle.codes.specs.Bytes.{byte_of}
 use Rattle.codes.specs.Pad.{high_of}
@@ -12,6 +11,9 @@ use Rattle.asking.specs.Judged.{Judged, asked}
 use Rattle.query.specs.Tests.{literal_of, test_at}
 use Rattle.schedule.specs.Schedule.{count_in, found}
 use Rattle.schedule.specs.Comparisons.{comparing}
+use Rattle.segment.specs.declared.Bounds.{Bounds}
+use Rattle.segment.specs.declared.Column.{Column}
+use Rattle.segment.specs.declared.Plan.{Plan}
 use Rattle.segment.specs.declared.Segment.{Segment}
 use Rattle.asking.specs.AtFile.{widened, tests_in, bytes_in}
 
@@ -25,28 +27,35 @@ pub record LiteralSlice (width literal slice : ℕ) : Type 0 where
   pub fit : FitLiteral width literal
   pub there : slice < slices_of width
 
--- a place in the plan for the low and high byte of a literal that fits, in every slice, from a base on
-pub record FitPlan (width literal base : ℕ) (lows highs : List ℕ) : Type 0 where
-  pub fit : FitLiteral width literal
-  pub room : base + most_slices ≤ plan_places
-  pub all_lows : length lows ≡ plan_places
-  pub all_highs : length highs ≡ plan_places
+-- the bounds in a slice, and the column of a test
+abbrev pub no_bounds : Bounds
+no_bounds = record { low = 0; high = 0 }
 
--- the low and the high bytes stand there
-pub record BytesPlanned (width literal base : ℕ) (lows₀ lows highs₀ highs : List ℕ) : Type 0 where
-  pub low : Swept lows₀ lows base (slices_of width) (λ j. byte_of width literal j)
-  pub high : Swept highs₀ highs base (slices_of width) (λ j. high_of width j (byte_of width literal j))
+abbrev pub bounds_at : List Bounds → ℕ → Bounds
+bounds_at bounds j = get_or bounds j no_bounds
 
--- the plan of a query: where each test's column starts, its slices, and the literal's low and high bytes, four to a test
-pub record Planned (file : List ℕ) (tests : List Test) (count : ℕ) (offsets slices lows highs : List ℕ) : Type 0 where
-  pub at_offset : (t : ℕ) → t < count → get_or offsets t 0 ≡ offset_in file (test_at tests t).column
-  pub so_many : (t : ℕ) → t < count → get_or slices t 0 ≡ slices_of (width_in file (test_at tests t).column)
-  pub from_low : (t j : ℕ) → t < count → j < slices_of (width_in file (test_at tests t).column) →
-      get_or lows (t * most_slices + j) 0 ≡ byte_of (width_in file (test_at tests t).column) (literal_of (test_at tests t).comparison) j
-  pub to_high : (t j : ℕ) → t < count → j < slices_of (width_in file (test_at tests t).column) →
-      get_or highs (t * most_slices + j) 0 ≡
-      high_of (width_in file (test_at tests t).column) j
-      (byte_of (width_in file (test_at tests t).column) (literal_of (test_at tests t).comparison) j)
+abbrev pub no_column : Column
+no_column = record { offset = 0; slices = 0; bounds = [] }
+
+abbrev pub column_at : Plan → ℕ → Column
+column_at plan t = get_or plan.columns t no_column
+
+-- the low and the high byte of a literal stand there, in each of so many slices
+pub record BytesPlanned (width literal slices : ℕ) (bounds : List Bounds) : Type 0 where
+  pub from_low : (j : ℕ) → j < slices → (bounds_at bounds j).low ≡ byte_of width literal j
+  pub to_high : (j : ℕ) → j < slices → (bounds_at bounds j).high ≡ high_of width j (byte_of width literal j)
+
+-- where a column starts, its slices, and the bytes of the literal in each
+pub record ColumnPlanned (width literal offset : ℕ) (column : Column) : Type 0 where
+  pub at_offset : column.offset ≡ offset
+  pub so_many : column.slices ≡ slices_of width
+  pub bytes : BytesPlanned width literal (slices_of width) column.bounds
+
+-- the plan of a query: where each test's column starts, its slices, and the literal's low and high bytes
+pub record Planned (file : List ℕ) (tests : List Test) (count : ℕ) (plan : Plan) : Type 0 where
+  pub columns : (t : ℕ) → t < count →
+      ColumnPlanned (width_in file (test_at tests t).column) (literal_of (test_at tests t).comparison)
+      (offset_in file (test_at tests t).column) (column_at plan t)
 
 -- a segment of a judged file: n rows from the first on, at most 64
 pub record SegmentFit (file : List ℕ) (rows first n : ℕ) (tests : List Test) (count : ℕ) : Type 0 where
@@ -56,10 +65,9 @@ pub record SegmentFit (file : List ℕ) (rows first n : ℕ) (tests : List Test)
   pub within : first + n ≤ rows
 
 -- such a segment, and a plan to scan it by
-pub record SegmentPlanned (file : List ℕ) (rows first n : ℕ) (tests : List Test) (count : ℕ) (offsets slices lows highs : List ℕ) :
-    Type 0 where
+pub record SegmentPlanned (file : List ℕ) (rows first n : ℕ) (tests : List Test) (count : ℕ) (plan : Plan) : Type 0 where
   pub fit : SegmentFit file rows first n tests count
-  pub plan : Planned file tests count offsets slices lows highs
+  pub planned : Planned file tests count plan
 
 -- a segment scanned: 1 for each row found and 0 for every other place; each test's count, and 0 after the last
 pub record SegmentScanned (file : List ℕ) (tests : List Test) (count first n : ℕ) (segment : Segment) : Type 0 where

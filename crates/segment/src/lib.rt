@@ -7,21 +7,33 @@ ghost use Rattle.std.specs.Prelude.{◌≡◌};
 ghost use Rattle.codes.specs.Bytes.{byte_of};
 ghost use Rattle.codes.specs.Pad.{high_of};
 ghost use Rattle.asking.specs.Judged.{Judged};
-ghost use Rattle.segment.specs.Steps.{LiteralSlice, FitPlan, BytesPlanned, Planned, SegmentPlanned, SegmentScanned};
+ghost use Rattle.segment.specs.Steps.{FitLiteral, LiteralSlice, ColumnPlanned, Planned, SegmentPlanned, SegmentScanned};
 
-use limits::{LONGEST_SEGMENT, MOST_SLICES, MOST_TESTS, PLAN_PLACES, STANDING_PLACES};
+use limits::{LONGEST_SEGMENT, MOST_SLICES, MOST_TESTS, STANDING_PLACES};
 use query::Test;
 use register::Shape;
 use standings::{NoMatch, RuledOut, in_rows, open_row, step, take_out_all};
 
-// The plan of a query, made once: where each test's column starts and how many slices it has, and the
-// low and high byte of its literal in each slice, four to a test.
+// The bytes of a slice between which a row counts as equal to the literal.
+#[derive(Clone, Copy)]
+pub struct Bounds {
+    pub low: u8,
+    pub high: u8,
+}
+
+// What is planned of a test's column: where it starts in the file, how many slices it has, and the
+// literal's bounds in each.
+#[derive(Clone, Copy)]
+pub struct Column {
+    pub offset: usize,
+    pub slices: usize,
+    pub bounds: [Bounds; MOST_SLICES],
+}
+
+// The plan of a query, made once: its tests' columns.
 #[derive(Clone, Copy)]
 pub struct Plan {
-    pub offsets: [usize; MOST_TESTS],
-    pub slices: [usize; MOST_TESTS],
-    pub lows: [u8; PLAN_PLACES],
-    pub highs: [u8; PLAN_PLACES],
+    pub columns: [Column; MOST_TESTS],
 }
 
 // A segment scanned: 1 for each row that is found, and each test's count.
@@ -34,50 +46,40 @@ pub struct Segment {
 // Makes the plan of a query.
 pub fn plan_of(file: &[u8], shape: Shape, tests: [Test; MOST_TESTS], count: usize) -> Plan
     requires { Judged file.now shape tests count }
-    ensures { Planned file.now tests count result.offsets result.slices result.lows result.highs }
+    ensures { Planned file.now tests count result }
 {
-    let mut offsets = [0usize; MOST_TESTS];
-    let mut slices = [0usize; MOST_TESTS];
-    let mut lows = [0u8; PLAN_PLACES];
-    let mut highs = [0u8; PLAN_PLACES];
-    let mut t = 0;
-    while t < count {
+    let mut columns = [Column {
+        offset: 0,
+        slices: 0,
+        bounds: [Bounds { low: 0, high: 0 }; MOST_SLICES],
+    }; MOST_TESTS];
+    for t in 0..count {
         let test = tests[t];
         let column = test.column;
         let width = register::width_at(file, shape, column);
-        let comparison = test.comparison;
-        let literal = query::literal_of(comparison);
-        offsets[t] = register::offset_at(file, shape, column);
-        slices[t] = codes::slices_of(width);
-        plan_bytes(width, literal, &mut lows, &mut highs, t * MOST_SLICES);
-        t = t + 1;
+        let offset = register::offset_at(file, shape, column);
+        columns[t] = plan_column(width, query::literal_of(test.comparison), offset);
     }
-    Plan {
-        offsets,
-        slices,
-        lows,
-        highs,
-    }
+    Plan { columns }
 }
 
-// Puts the bytes of each slice between which a row counts as equal to the literal, from a base on.
-fn plan_bytes(
-    width: u8,
-    literal: u64,
-    lows: &mut [u8; PLAN_PLACES],
-    highs: &mut [u8; PLAN_PLACES],
-    base: usize,
-)
-    requires { FitPlan width literal base lows.old highs.old }
-    ensures { BytesPlanned width literal base
-        lows.old lows.new highs.old highs.new }
+// Plans a column of some width, from an offset on, by the literal of its test.
+fn plan_column(width: u8, literal: u64, offset: usize) -> Column
+    requires { FitLiteral width literal }
+    ensures { ColumnPlanned width literal offset result }
 {
     let slices = codes::slices_of(width);
-    let mut j = 0;
-    while j < slices {
-        lows[base + j] = codes::byte_of(width, literal, j);
-        highs[base + j] = high_of(width, literal, j);
-        j = j + 1;
+    let mut bounds = [Bounds { low: 0, high: 0 }; MOST_SLICES];
+    for j in 0..slices {
+        bounds[j] = Bounds {
+            low: codes::byte_of(width, literal, j),
+            high: high_of(width, literal, j),
+        };
+    }
+    Column {
+        offset,
+        slices,
+        bounds,
     }
 }
 
@@ -88,7 +90,7 @@ fn high_of(width: u8, literal: u64, slice: usize) -> u8
 {
     let low = codes::byte_of(width, literal, slice);
     if slice + 1 == codes::slices_of(width) {
-        (numbers::wide64(low) + (codes::unit_of(width) - 1)) as u8
+        (u64::from(low) + (codes::unit_of(width) - 1)) as u8
     } else {
         low
     }
@@ -103,46 +105,43 @@ pub fn scan_segment(
     n: usize,
     tests: [Test; MOST_TESTS],
     count: usize,
-    offsets: &[usize; MOST_TESTS],
-    slices: &[usize; MOST_TESTS],
-    lows: &[u8; PLAN_PLACES],
-    highs: &[u8; PLAN_PLACES],
+    plan: &Plan,
 ) -> Segment
-    requires { SegmentPlanned file.now rows first n tests count offsets.now slices.now lows.now highs.now }
+    requires { SegmentPlanned file.now rows first n tests count plan.now }
     ensures { SegmentScanned file.now tests count first n result }
 {
     let mut standings = [0u8; STANDING_PLACES];
     let mut inside = in_rows(n);
     let mut counts = [0usize; MOST_TESTS];
-    let mut j = 0;
-    'slices: while j < MOST_SLICES {
+    'slices: for j in 0..MOST_SLICES {
         let mut closed = true;
-        let mut t = 0;
-        'tests: while t < count {
-            if j < slices[t] {
+        'tests: for t in 0..count {
+            let column = &plan.columns[t];
+            if j < column.slices {
                 let base = t * LONGEST_SEGMENT;
                 let mut open = 0u8;
-                let mut r = 0;
-                'rows: while r < n {
-                    open = open + open_row(standings[base + r], inside[r]);
-                    r = r + 1;
+                'rows: for r in 0..n {
+                    open += open_row(standings[base + r], inside[r]);
                 }
                 if 0 < open {
-                    let from = offsets[t] + j * rows + first;
-                    let low = lows[t * MOST_SLICES + j];
-                    let high = highs[t * MOST_SLICES + j];
-                    step(&file[from..from + n], &mut standings, base, low, high);
-                    counts[t] = counts[t] + n;
+                    let from = column.offset + j * rows + first;
+                    let bounds = column.bounds[j];
+                    step(
+                        &file[from..from + n],
+                        &mut standings,
+                        base,
+                        bounds.low,
+                        bounds.high,
+                    );
+                    counts[t] += n;
                     closed = false;
                 }
             }
-            t = t + 1;
         }
         if closed {
             break 'slices;
         }
         take_out_all::<RuledOut>(tests, count, &standings, &mut inside, n);
-        j = j + 1;
     }
     take_out_all::<NoMatch>(tests, count, &standings, &mut inside, n);
     Segment {

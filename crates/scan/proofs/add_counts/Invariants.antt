@@ -1,13 +1,9 @@
--- What the loop of `add_counts` keeps, and what each turn makes less.
-use Prim.Native.Nat.{◌+◌, ◌-◌, ◌≤◌}
+-- What the loop of `add_counts` keeps. Assumes nothing.
+use Prim.Native.Nat.{◌+◌}
 use lib.ListN.{get_or}
-use Rattle.limits.specs.Limits.{most_tests}
 use Rattle.basis.specs.Sweeps.{Swept}
 use Rattle.scan.proofs.add_counts.Given as goal
 
 abbrev pub invariant-loop-t : goal.invariant-loop-t
 invariant-loop-t l =
-    (l.t ≤ most_tests) × Swept l.initial.counts l.counts 0 l.t (λ k. get_or l.initial.counts k 0 + get_or l.read k 0)
-
-abbrev pub decreases-loop-t : goal.decreases-loop-t
-decreases-loop-t l = most_tests - l.t
+    Swept l.initial.counts l.counts 0 l.t (λ k. get_or l.initial.counts k 0 + get_or l.read k 0)

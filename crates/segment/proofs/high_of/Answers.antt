@@ -2,10 +2,8 @@
 use Prim.Native.Nat.{◌+◌, ◌-◌, ◌<◌}
 use native.Mathlib.Omega.{arith}
 use mathlib.Core.Path.{◌≡◌, sym, ◌∙◌}
-use lib.Pow.{pow_pos}
 use Rattle.codes.specs.Bytes.{byte_of}
 use Rattle.codes.specs.Pad.{high_of}
-use Rattle.codes.specs.Width.{pad_of}
 use Rattle.codes.proofs.Width.{few_slices_of}
 use Rattle.codes.proofs.LowHigh.{high_last, high_before, high_is_a_byte}
 use Rattle.segment.proofs.high_of.Goals as goal
@@ -14,10 +12,10 @@ use Rattle.segment.proofs.high_of.Goals.{After-unit_of}
 -- in the last slice, what is computed is the high
 high_here : (c : After-unit_of) →
     let a = c.args in
-    c.wide64.result + (c.unit_of.result - 1) ≡ high_of a.width a.slice (byte_of a.width a.literal a.slice)
+    c.from.result + (c.unit_of.result - 1) ≡ high_of a.width a.slice (byte_of a.width a.literal a.slice)
 high_here c =
     let a = c.args in
-    rw (c.wide64.ensures.same, c.unit_of.ensures, c.byte_of-low.ensures)
+    rw (c.from.ensures, c.unit_of.ensures, c.byte_of-low.ensures)
     (sym (high_last a.width a.slice _ (omega (arith, c.slices_of.ensures, c.if-slice-slices_of.true))))
 
 is_a_byte : (c : After-unit_of) →
@@ -28,9 +26,6 @@ is_a_byte c =
 
 pub overflow_add-slice : goal.overflow_add-slice
 overflow_add-slice c = omega (arith, few_slices_of c.args.width c.requires.fit.narrow)
-
-pub overflow_sub-result : goal.overflow_sub-result
-overflow_sub-result c = omega (arith, c.unit_of.ensures, pow_pos (pad_of c.args.width))
 
 pub overflow_add-result : goal.overflow_add-result
 overflow_add-result c = omega (arith, high_here c, is_a_byte c)

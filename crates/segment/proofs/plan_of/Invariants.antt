@@ -1,16 +1,9 @@
--- What the loop of `plan_of` keeps, and what each turn makes less.
-use Prim.Native.Nat.{◌-◌, ◌≤◌}
+-- What the loop of `plan_of` keeps. Assumes nothing.
 use mathlib.Core.Path.{◌≡◌}
 use lib.ListN.{length}
-use Rattle.limits.specs.Limits.{most_tests, plan_places}
+use Rattle.limits.specs.Limits.{most_tests}
 use Rattle.segment.specs.Steps.{Planned}
 use Rattle.segment.proofs.plan_of.Given as goal
 
 abbrev pub invariant-loop-t : goal.invariant-loop-t
-invariant-loop-t l =
-    (l.t ≤ l.count) ×
-    Planned l.file l.tests l.t l.offsets l.slices l.lows l.highs ×
-    ((length l.offsets ≡ most_tests) × (length l.slices ≡ most_tests) × (length l.lows ≡ plan_places) × (length l.highs ≡ plan_places))
-
-abbrev pub decreases-loop-t : goal.decreases-loop-t
-decreases-loop-t l = l.count - l.t
+invariant-loop-t l = (length l.columns ≡ most_tests) × Planned l.file l.tests l.t (record { columns = l.columns })

@@ -1,31 +1,27 @@
 -- `segment::scan_segment` meets its contract: the buffers hold what the schedule says after each slice and each test, and the
 -- slices end when no test counts one. Assumes nothing.
 --   work_at, fit   the work on the segment, which is fit
---   so_far         at a turn, how far it has come
---   at_most_one    a row adds at most 1 to the rows that are open
---   within, counts_it, room, long    where some row is open: the test has the slice, which counts for it, and whose bytes lie in the file
+--   room           where some row is open, the segment's bytes of the slice lie in the file
 --   ended          where the loop over the slices is left, they have ended
-use Prim.Native.Nat.{ℕ, ◌+◌, ◌-◌, ◌*◌, ◌≤◌, ◌<◌}
+use Prim.Native.Nat.{◌+◌, ◌*◌, ◌≤◌, ◌<◌}
 use native.Mathlib.Omega.{arith}
 use native.Mathlib.Numerals.{add-one}
 use mathlib.Core.Path.{◌≡◌, refl, sym}
-use mathlib.Core.Bool.{true}
-use lib.ListN.{length, get_or, take, drop}
+use lib.ListN.{length}
 use Rattle.limits.specs.Limits.{longest_segment}
 use Rattle.basis.specs.Lists.{sum, below}
 use Rattle.basis.proofs.Lists.{sum_one_more}
-use Rattle.codes.specs.Width.{slices_of}
-use Rattle.segment.proofs.Work as work
-use Rattle.segment.proofs.Work.{Work, FitWork, takes, counted_few, takes_within}
-use Rattle.segment.proofs.Progress.{Progress, same_progress, begun, passed_over, taken, next_slice}
+use Rattle.segment.specs.Steps.{column_at}
+use Rattle.segment.proofs.Work.{Work, FitWork, counted_few, takes_within}
+use Rattle.segment.proofs.Progress.{same_progress, begun, passed_over, taken, next_slice}
 use Rattle.segment.proofs.OpenRows.{open_in, open_at_most_one, some_open, none_open}
 use Rattle.segment.proofs.Ending.{Ended, scanned, ended_closed, ended_after_four}
 use Rattle.segment.proofs.Parts.{segment_fits, part_long}
 use Rattle.segment.proofs.Stepping.{has_slice, bytes_within, steps_right}
 use Rattle.segment.proofs.scan_segment.Invariants.{work_of}
 use Rattle.segment.proofs.scan_segment.Goals as goal
-use Rattle.segment.proofs.scan_segment.Goals.{Start, In-tests, After-open_row-open, Left-slices}
-use Rattle.segment.proofs.scan_segment.Goals.{then-j-slices+else-rows-test+then-open-gt0, then-j-slices+else-rows-test+else-open-gt0, else-j-slices}
+use Rattle.segment.proofs.scan_segment.Goals.{Start, Then-open-gt0, Left-slices}
+use Rattle.segment.proofs.scan_segment.Goals.{then-j-column+else-rows-test+then-open-gt0, then-j-column+else-rows-test+else-open-gt0, else-j-column}
 use Rattle.segment.proofs.scan_segment.Goals.{else-slices-test, then-slices-test+else-tests-test+then-closed}
 
 -- the work on the segment, which is fit
@@ -35,112 +31,75 @@ work_at c = work_of c.args.file.now c.args.first c.args.n c.args.tests c.args.co
 fit : (c : Start) → FitWork (work_at c)
 fit c = segment_fits c.requires.fit (omega arith)
 
--- at a turn: the work, and how far it has come
-abbrev work_in : In-tests → Work
-work_in c = work_of c.args.file.now c.args.first c.args.n c.args.tests c.args.count
-
-so_far : (c : In-tests) → Progress (work_in c) c.slices.j c.tests.t c.tests.standings c.slices.inside c.tests.counts c.tests.closed
-so_far c = c.tests.invariant.1
-
--- where some row is open: where the segment's bytes of the slice begin
-abbrev from_of : In-tests → ℕ
-from_of c = get_or c.args.offsets.now c.tests.t 0 + c.slices.j * c.args.rows + c.args.first
-
--- the test has the slice,
-within : (c : In-tests) → c.slices.j < get_or c.args.slices.now c.tests.t 0 →
-    c.slices.j < slices_of (work.test_of (work_in c) c.tests.t).width
-within c has = has_slice c.requires.fit c.requires.plan c.tests.t c.slices.j c.tests-test.true has
-
--- the slice counts for it,
-counts_it : (c : In-tests) → c.slices.j < get_or c.args.slices.now c.tests.t 0 → («open» r : ℕ) →
-    «open» ≡ sum (open_in c.tests.standings (c.tests.t * longest_segment) c.slices.inside) (below r) → r ≡ c.args.n → 0 < «open» →
-    takes (work_in c) c.tests.t c.slices.j ≡ true
-counts_it c has «open» r counted all some = some_open (so_far c) c.tests-test.true «open» r counted all some (within c has)
-
--- and the bytes lie in the file, so many of them
-room : (c : In-tests) → c.slices.j < get_or c.args.slices.now c.tests.t 0 → 0 < c.args.n →
-    from_of c + c.args.n ≤ length c.args.file.now
-room c has some = bytes_within c.requires.fit c.requires.plan c.tests.t c.slices.j c.tests-test.true (within c has) some
-
-long : (c : In-tests) → c.slices.j < get_or c.args.slices.now c.tests.t 0 → 0 < c.args.n →
-    length (take (from_of c + c.args.n - from_of c) (drop (from_of c) c.args.file.now)) ≡ c.args.n
-long c has some = part_long _ _ _ (room c has some)
+-- where some row is open, the segment's bytes of the slice lie in the file
+room : (c : Then-open-gt0) →
+    (column_at c.args.plan.now c.tests.t).offset + c.slices.j * c.args.rows + c.args.first + c.args.n ≤ length c.args.file.now
+room c = bytes_within c.requires.fit c.requires.planned c.tests.t c.slices.j c.tests-test.true c.if-j-column.true (omega arith)
 
 pub slices-init : goal.slices-init
-slices-init c = (omega arith, begun (fit (goal.at.slices-init c).Start) c.in_rows-inside.ensures.0 c.in_rows-inside.ensures.1)
+slices-init c = begun (fit (goal.at.slices-init c).Start) c.in_rows-inside.ensures.0 c.in_rows-inside.ensures.1
 
 pub rows-preserved : goal.rows-preserved
 rows-preserved c =
     let opened = open_in c.tests.standings (c.tests.t * longest_segment) c.slices.inside in
     let more : sum opened (below (c.rows.r + 1)) ≡ sum opened (below c.rows.r) + opened c.rows.r = rw add-one (sum_one_more opened c.rows.r) in
     let one : c.open_row-open.result ≤ 1 =
-    rw c.open_row-open.ensures (search (open_at_most_one (so_far (goal.at.rows-preserved c).In-tests) c.tests-test.true, c.rows-test.true)) in
-    (omega arith, omega arith, omega (arith, more, c.open_row-open.ensures))
+    rw c.open_row-open.ensures (search (open_at_most_one c.tests.invariant c.tests-test.true, c.rows-test.true)) in
+    (omega arith, omega (arith, more, c.open_row-open.ensures))
 
 pub overflow_mul-from : goal.overflow_mul-from
-overflow_mul-from c = omega (arith, room (goal.at.overflow_mul-from c).In-tests c.if-j-slices.true (omega arith))
+overflow_mul-from c = omega (arith, room (goal.at.overflow_mul-from c).Then-open-gt0)
 
 pub overflow_add-from : goal.overflow_add-from
-overflow_add-from c = omega (arith, room (goal.at.overflow_add-from c).In-tests c.if-j-slices.true (omega arith))
+overflow_add-from c = omega (arith, room (goal.at.overflow_add-from c).Then-open-gt0)
 
 pub overflow_add-from-then-open-gt0 : goal.overflow_add-from-then-open-gt0
-overflow_add-from-then-open-gt0 c =
-    omega (arith, room (goal.at.overflow_add-from-then-open-gt0 c).In-tests c.if-j-slices.true (omega arith))
+overflow_add-from-then-open-gt0 c = omega (arith, room (goal.at.overflow_add-from-then-open-gt0 c).Then-open-gt0)
 
 pub overflow_add-from-then-open-gt0-2 : goal.overflow_add-from-then-open-gt0-2
-overflow_add-from-then-open-gt0-2 c =
-    omega (arith, room (goal.at.overflow_add-from-then-open-gt0-2 c).In-tests c.if-j-slices.true (omega arith))
+overflow_add-from-then-open-gt0-2 c = omega (arith, room (goal.at.overflow_add-from-then-open-gt0-2 c).Then-open-gt0)
 
 pub slice_bounds-step-end : goal.slice_bounds-step-end
-slice_bounds-step-end c = omega (arith, room (goal.at.slice_bounds-step-end c).In-tests c.if-j-slices.true (omega arith))
-
-pub step-requires : goal.step-requires
-step-requires c =
-    let turn = (goal.at.step-requires c).In-tests in (
-      omega (arith, long turn c.if-j-slices.true (omega arith), c.requires.fit.short, c.requires.fit.judged.few),
-      (so_far turn).all_standings,
-    )
+slice_bounds-step-end c = omega (arith, room (goal.at.slice_bounds-step-end c).Then-open-gt0)
 
 pub overflow_add-counts : goal.overflow_add-counts
 overflow_add-counts c =
     omega (
       arith,
-      (so_far (goal.at.overflow_add-counts c).In-tests).to_count c.tests.t (omega arith) c.tests-test.true,
+      c.tests.invariant.to_count c.tests.t (omega arith) c.tests-test.true,
       counted_few (work_at (goal.at.overflow_add-counts c).Start) c.tests.t c.slices.j c.requires.fit.short,
     )
 
 pub tests-preserved : goal.tests-preserved
 tests-preserved c =
-    let turn = (goal.at.tests-preserved c).In-tests in
     let start = (goal.at.tests-preserved c).Start in
-    let next = c.tests-test.true in (
-      omega arith,
-      elim c.if-j-slices.branch [
-        | then-j-slices+else-rows-test+then-open-gt0 w ↦
-            let some : 0 < c.args.n = omega (arith, w.rows.invariant.0, w.rows.invariant.1, w.if-open-gt0.true) in
-            let all : w.rows.r ≡ c.args.n = omega (arith, w.rows.invariant.0, w.rows-test.false) in
-            same_progress w.standings-is w.counts-is w.closed-is
-            (taken (so_far turn) next (fit start)
-            (counts_it turn w.if-j-slices.true w.rows.«open» w.rows.r w.rows.invariant.2 all w.if-open-gt0.true) w.step.ensures
-            (long turn w.if-j-slices.true some)
-            (λ k h stands.
-            steps_right c.requires.fit c.requires.plan c.tests.t c.slices.j next (within turn w.if-j-slices.true) (fit start).there _ k h stands)
-            refl)
-        | then-j-slices+else-rows-test+else-open-gt0 w ↦
-            same_progress w.standings-is w.counts-is w.closed-is
-            (passed_over (so_far turn) next
-            (none_open (so_far turn) next w.rows.«open» w.rows.r w.rows.invariant.2 (omega (arith, w.rows.invariant.0, w.rows-test.false))
-            w.if-open-gt0.false))
-        | else-j-slices w ↦
-            same_progress w.standings-is w.counts-is w.closed-is
-            (passed_over (so_far turn) next
-            (takes_within (work_at start) c.tests.t c.slices.j (omega (arith, w.if-j-slices.false, c.requires.plan.so_many c.tests.t next))))
-      ],
-    )
+    let so_far = c.tests.invariant in
+    let next = c.tests-test.true in
+    elim c.if-j-column.branch [
+      | then-j-column+else-rows-test+then-open-gt0 w ↦
+          let some : 0 < c.args.n = omega (arith, w.rows.invariant.0, w.if-open-gt0.true) in
+          let within = has_slice c.requires.fit c.requires.planned c.tests.t c.slices.j next w.if-j-column.true in
+          same_progress w.standings-is w.counts-is w.closed-is
+          (taken so_far next (fit start)
+          (some_open so_far next w.rows.«open» w.rows.r w.rows.invariant.1 (omega (arith, w.rows-test.false)) w.if-open-gt0.true within)
+          w.step.ensures
+          (part_long _ _ _ (bytes_within c.requires.fit c.requires.planned c.tests.t c.slices.j next w.if-j-column.true some))
+          (λ k h stands. steps_right c.requires.fit c.requires.planned c.tests.t c.slices.j next within (fit start).there _ k h stands)
+          refl)
+      | then-j-column+else-rows-test+else-open-gt0 w ↦
+          same_progress w.standings-is w.counts-is w.closed-is
+          (passed_over so_far next
+          (none_open so_far next w.rows.«open» w.rows.r w.rows.invariant.1 (omega (arith, w.rows-test.false)) w.if-open-gt0.false))
+      | else-j-column w ↦
+          same_progress w.standings-is w.counts-is w.closed-is
+          (passed_over so_far next
+          (takes_within (work_at start) c.tests.t c.slices.j
+          (omega (arith, w.if-j-column.false, (c.requires.planned.columns c.tests.t next).so_many))))
+    ]
 
 pub slices-preserved : goal.slices-preserved
 slices-preserved c =
-    (omega arith, next_slice (fit (goal.at.slices-preserved c).Start) (omega arith) c.tests.invariant.1 c.take_out_all.ensures)
+    next_slice (fit (goal.at.slices-preserved c).Start) (omega arith) c.tests.invariant c.take_out_all.ensures
 
 -- where the loop over the slices is left, by its test or because all tests are closed, they have ended
 ended : (c : Left-slices) →
@@ -150,15 +109,11 @@ ended c =
     let fits = segment_fits c.requires.fit (omega arith) in
     elim c.slices-test.branch [
       | else-slices-test w ↦
-          ended_after_four fits w.slices-test.false (same_progress w.standings-is w.counts-is refl c.slices.invariant.1)
+          ended_after_four fits w.slices-test.false (same_progress w.standings-is w.counts-is refl c.slices.invariant)
       | then-slices-test+else-tests-test+then-closed w ↦
-          ended_closed fits (omega (arith, w.tests.invariant.0, w.tests-test.false))
-          (same_progress w.standings-is w.counts-is (sym w.if-closed.true) w.tests.invariant.1)
+          ended_closed fits (omega (arith, w.tests-test.false))
+          (same_progress w.standings-is w.counts-is (sym w.if-closed.true) w.tests.invariant)
     ]
-
-pub take_out_all-requires-2 : goal.take_out_all-requires-2
-take_out_all-requires-2 c =
-    (c.requires.fit.judged.few, c.requires.fit.short, (ended (goal.at.take_out_all-requires-2 c).Left-slices).reached.all_rows)
 
 pub returns : goal.returns
 returns c = scanned (fit (goal.at.returns c).Start) (ended (goal.at.returns c).Left-slices) c.take_out_all-2.ensures

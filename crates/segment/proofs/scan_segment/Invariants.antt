@@ -1,10 +1,9 @@
--- The three loops of `segment::scan_segment`, over slices, tests and rows: what each keeps, and what each turn makes less. Assumes nothing.
+-- The three loops of `segment::scan_segment`, over slices, tests and rows: what each keeps. Assumes nothing.
 --   work_of    the work on the segment, by the parameters
-use Prim.Native.Nat.{ℕ, ◌-◌, ◌≤◌}
+use Prim.Native.Nat.{ℕ, ◌≤◌}
 use mathlib.Core.Path.{◌≡◌}
 use mathlib.Core.List.{List}
 use mathlib.Core.Bool.{true}
-use Rattle.limits.specs.Limits.{most_slices}
 use Rattle.basis.specs.Lists.{sum, below}
 use Rattle.query.specs.declared.Test.{Test}
 use Rattle.segment.proofs.Work.{Work}
@@ -17,21 +16,10 @@ abbrev pub work_of : List ℕ → ℕ → ℕ → List Test → ℕ → Work
 work_of file first n tests count = record { file = file; tests = tests; count = count; first = first; n = n }
 
 abbrev pub invariant-slices : goal.invariant-slices
-invariant-slices l =
-    (l.j ≤ most_slices) × Progress (work_of l.file l.first l.n l.tests l.count) l.j 0 l.standings l.inside l.counts true
-
-abbrev pub decreases-slices : goal.decreases-slices
-decreases-slices l = most_slices - l.j
+invariant-slices l = Progress (work_of l.file l.first l.n l.tests l.count) l.j 0 l.standings l.inside l.counts true
 
 abbrev pub invariant-tests : goal.invariant-tests
-invariant-tests l =
-    (l.t ≤ l.count) × Progress (work_of l.file l.first l.n l.tests l.count) l.j l.t l.standings l.inside l.counts l.closed
-
-abbrev pub decreases-tests : goal.decreases-tests
-decreases-tests l = l.count - l.t
+invariant-tests l = Progress (work_of l.file l.first l.n l.tests l.count) l.j l.t l.standings l.inside l.counts l.closed
 
 abbrev pub invariant-rows : goal.invariant-rows
-invariant-rows l = (l.r ≤ l.n) × (l.«open» ≤ l.r) × (l.«open» ≡ sum (open_in l.standings l.base l.inside) (below l.r))
-
-abbrev pub decreases-rows : goal.decreases-rows
-decreases-rows l = l.n - l.r
+invariant-rows l = (l.«open» ≤ l.r) × (l.«open» ≡ sum (open_in l.standings l.base l.inside) (below l.r))
