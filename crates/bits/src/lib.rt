@@ -58,12 +58,14 @@ pub fn count_rows(bits: &[u8]) -> usize
     requires { length bits.now ≤ most_rows }
     ensures { result ≡ length (marked_below (8 * length bits.now) bits.now) }
 {
-    let words = bits.len() / 8;
     let mut many: usize = 0;
-    for w in 0..words {
-        many += ones_in(word_at(bits, 8 * w, 8));
+    let mut i = 0;
+    // no `for` over the words: with it a list of few rows takes 1.08 times as long
+    while i + 8 <= bits.len() {
+        many += ones_in(word_at(bits, i, 8));
+        i += 8;
     }
-    many + ones_in(word_at(bits, 8 * words, bits.len() % 8))
+    many + ones_in(word_at(bits, i, bits.len() - i))
 }
 
 // The word of so many bytes from a place on: its set bits are the rows marked there.
@@ -122,8 +124,5 @@ fn ones_of_rows(found: &[u8; LONGEST_SEGMENT], at: usize) -> usize
     requires { EightRows found.now at }
     ensures { OnesOfRows found.now at result }
 {
-    found[at..at + 8]
-        .iter()
-        .map(|row| usize::from(*row))
-        .sum()
+    found[at..at + 8].iter().map(|row| usize::from(*row)).sum()
 }

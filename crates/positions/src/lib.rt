@@ -30,6 +30,7 @@ struct Positions {
     ghost right: { HoldsPlaces places },
 }
 
+// `out`, `at` and `all` stay three parameters: with a struct of them each contract would say as well that `all` is kept.
 impl Positions {
     // Writes the rows by the table. Where they are so few that five bytes of six are 0 it leaves those out.
     fn write(&self, bits: &[u8], all: usize, out: &mut [u32])

@@ -1,5 +1,5 @@
 -- `bits::byte_of_rows` meets its contract: eight places of 0 or 1 with the weights of their bits are the byte. Assumes nothing.
-use Rattle.std.proofs.Common.{ℕ, ◌+◌, ◌≡◌, get_or}
+use Rattle.std.proofs.Common.{◌+◌, ◌≡◌, get_or}
 use native.Mathlib.Nat.{add-zero}
 use Rattle.bits.proofs.Packed.{byte_of_eight}
 use Rattle.bits.proofs.byte_of_rows.Goals as goal

@@ -1,8 +1,8 @@
--- `bits::count_rows` meets its contract: so many are marked in the words passed, and with the last few bytes in all. Assumes nothing.
+-- `bits::count_rows` meets its contract: so many are marked in the bytes passed, and with the last few in all. Assumes nothing.
 use Rattle.std.proofs.Common.{refl, arith}
 use Rattle.bits.specs.Marked.{marked_below}
 use Rattle.bits.proofs.count_rows.Goals as goal
 
-pub loop-w-init : goal.loop-w-init
+pub loop-i-init : goal.loop-i-init
 unfolding marked_below
-loop-w-init c = (refl, omega arith)
+loop-i-init c = (omega arith, refl, omega arith)

@@ -1,5 +1,5 @@
 -- `bits::is_marked` meets its contract: the bit of a byte, and none past the last byte. Assumes nothing.
-use Rattle.std.proofs.Common.{ℕ, ◌%◌, ◌^◌, refl}
+use Rattle.std.proofs.Common.{◌%◌, ◌^◌, refl}
 use native.Mathlib.Nat.{zero-div}
 use lib.ListN.{get_or-eq_default}
 use Rattle.bits.specs.Bits.{bit_in}

@@ -2,7 +2,7 @@
 -- Assumes nothing.
 use Rattle.std.proofs.Common.{◌*◌, ◌/◌, refl, arith}
 use lib.Count.{count_trailing_zeros}
-use Rattle.positions.proofs.ByteOfWord.{none_passed, NextByte, next_byte, room_for_byte, byte_passed, all_passed}
+use Rattle.positions.proofs.ByteOfWord.{NextByte, next_byte, room_for_byte, byte_passed, all_passed}
 use Rattle.positions.proofs.Positions.put_word.Goals as goal
 use Rattle.positions.proofs.Positions.put_word.Goals.{In-loop-rest}
 

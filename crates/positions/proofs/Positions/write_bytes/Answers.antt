@@ -1,7 +1,7 @@
 -- `positions::Positions::write_bytes` meets its contract: each turn writes the rows of one byte more. Assumes nothing.
 use Rattle.std.proofs.Common.{arith}
 use Rattle.bits.proofs.ByteByByte.{next_fits}
-use Rattle.positions.proofs.Written.{none_written, byte_written, all_written}
+use Rattle.positions.proofs.Written.{none_written, byte_written}
 use Rattle.positions.proofs.Positions.write_bytes.Goals as goal
 
 pub loop-i-init : goal.loop-i-init

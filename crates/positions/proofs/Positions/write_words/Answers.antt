@@ -2,7 +2,7 @@
 -- the bytes left. Assumes nothing.
 use Rattle.std.proofs.Common.{arith}
 use Rattle.bits.proofs.Words.{room_for_word}
-use Rattle.positions.proofs.Written.{none_written, word_written, all_written}
+use Rattle.positions.proofs.Written.{none_written}
 use Rattle.positions.proofs.Positions.write_words.Goals as goal
 
 pub loop-w-init : goal.loop-w-init
