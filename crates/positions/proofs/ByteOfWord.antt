@@ -142,7 +142,7 @@ module _ {word first at end : ℕ} {before out : List ℕ} {next rest passed : �
           length-map places (λ p. passed + zeros + p),
         )
 
-    pub byte_passed : {after : List ℕ} → BytePut (rest / 2 ^ zeros % 256) (first + passed + zeros) next end out after →
+    pub byte_passed : {after : List ℕ} → BytePut (rest / 2 ^ zeros % 256) (first + (passed + zeros)) next end out after →
         Passed word first at end before after (next + length places) (rest / 2 ^ zeros / 256) (passed + zeros + 8)
     byte_passed put =
         record {

@@ -25,7 +25,7 @@ unfoldable pub right_place : ℕ → ℕ → Bool
 right_place at position = eqb position (get_or (places_of (at / 8)) (at % 8) 0)
 
 pub holds_places : (table : List ℕ) → length table ≡ 2048 → T (every_entry right_place 0 table) → HoldsPlaces table
-unfolding right_place HoldsPlaces
+unfolding right_place
 holds_places table long passed byte k few here =
     let at = 8 * byte + k in
     let row : at / 8 ≡ byte = omega arith in

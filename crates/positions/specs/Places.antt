@@ -3,5 +3,5 @@ use Rattle.std.specs.Prelude.{ℕ, ◌+◌, ◌*◌, ◌<◌, ◌≡◌, List, g
 use Rattle.bits.specs.SetBits.{places_of}
 
 -- a table of 256 rows of eight positions: the places, then zeros
-unfoldable pub HoldsPlaces : List ℕ → Type 0
+abbrev pub HoldsPlaces : List ℕ → Type 0
 HoldsPlaces table = (byte k : ℕ) → byte < 256 → k < 8 → get_or table (8 * byte + k) 0 ≡ get_or (places_of byte) k 0

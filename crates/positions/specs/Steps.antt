@@ -3,7 +3,6 @@ use Rattle.std.specs.Prelude.{ℕ, ◌+◌, ◌*◌, ◌≤◌, ◌<◌, ◌≡�
 use Rattle.limits.specs.Limits.{most_rows, four_bytes}
 use Rattle.bits.specs.Marked.{marked_below}
 use Rattle.bits.specs.SetBits.{places_in, places_of}
-use Rattle.positions.specs.Places.{HoldsPlaces}
 
 -- the row of entry k of a byte whose first bit is that of the first row
 abbrev pub row_at : ℕ → ℕ → ℕ → ℕ
@@ -15,37 +14,23 @@ pub record RowsFit (bits : List ℕ) (all : ℕ) (out : List ℕ) : Type 0 where
   pub counted : all ≡ length (marked_below (8 * length bits) bits)
   pub room : all ≤ length out
 
--- and a table gives their positions
-pub record RowsByTable (positions bits : List ℕ) (all : ℕ) (out : List ℕ) : Type 0 where
-  pub table : HoldsPlaces positions
-  pub rows : RowsFit bits all out
-
 -- the rows of a word's set bits fit before the end, which the list has
-pub record WordByTable (positions : List ℕ) (word first at end : ℕ) (out : List ℕ) : Type 0 where
-  pub table : HoldsPlaces positions
+pub record WordHasRoom (word first at end : ℕ) (out : List ℕ) : Type 0 where
   pub low : first + 512 < four_bytes
   pub room : at + length (places_in 64 word) ≤ end
   pub inside : end ≤ length out
 
--- those of a byte, of which there are so many
-pub record ByteByTable (positions : List ℕ) (byte many first at end : ℕ) (out : List ℕ) : Type 0 where
-  pub table : HoldsPlaces positions
-  pub counted : many ≡ length (places_of byte)
+-- those of a byte
+pub record ByteHasRoom (byte first at end : ℕ) (out : List ℕ) : Type 0 where
   pub low : first + 256 < four_bytes
-  pub room : at + many ≤ end
+  pub room : at + length (places_of byte) ≤ end
   pub inside : end ≤ length out
 
 -- those of so many entries of a byte
-pub record EntriesByTable (positions : List ℕ) (many first at : ℕ) (out : List ℕ) : Type 0 where
-  pub table : HoldsPlaces positions
+pub record EntriesHaveRoom (many first at : ℕ) (out : List ℕ) : Type 0 where
   pub few : many ≤ 8
   pub low : first + 256 < four_bytes
   pub room : at + many ≤ length out
-
--- that of one entry
-pub record EntryByTable (positions : List ℕ) (k : ℕ) : Type 0 where
-  pub table : HoldsPlaces positions
-  pub inside : k < 8
 
 -- the rows of a byte stand behind what was before the place, and nothing is changed from the end on
 pub record BytePut (byte first at end : ℕ) (before after : List ℕ) : Type 0 where

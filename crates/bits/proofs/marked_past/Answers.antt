@@ -1,8 +1,6 @@
 -- `bits::marked_past` meets its contract: the last byte is compared with the weight of its first unused place. Assumes nothing.
-use Prim.Native.Nat.{ℕ, ◌*◌, ◌%◌, ◌^◌}
-use native.Mathlib.Omega.{arith}
+use Rattle.std.proofs.Common.{ℕ, ◌*◌, ◌/◌, ◌%◌, ◌^◌, ◌≡◌, sym, ap, ◌∙◌, get_or, arith}
 use native.Mathlib.Nat.{one-mul}
-use mathlib.Core.Path.{◌≡◌, sym, ap, ◌∙◌}
 use lib.Dec.{lit<, leb}
 use lib.Pow.{shl_exact}
 use Rattle.bits.specs.Bits.{bytes_for}
@@ -19,6 +17,7 @@ bounds-bits-rows c = omega (arith, c.requires)
 pub returns : goal.returns
 returns c =
     let rows = c.args.rows in
-    let weight : 1 * 2 ^ (rows % 8) % 2 ^ 64 ≡ 2 ^ (rows % 8) = shl_exact 1 (rows % 8) 64 (lit< tt) (omega arith) ∙ one-mul _ in
-    ap (λ (w : ℕ). leb w c.wide.result) weight
-    ∙ rw c.wide.ensures.same (sym (part_of_byte rows _ (omega arith) (omega (arith, c.wide.ensures.same))))
+    let bits = c.args.bits.now in
+    let weight : 1 * 2 ^ (rows % 8) % 256 ≡ 2 ^ (rows % 8) = shl_exact 1 (rows % 8) 8 (lit< tt) (omega arith) ∙ one-mul _ in
+    ap (λ (w : ℕ). leb w (get_or bits (rows / 8) 0)) weight
+    ∙ sym (part_of_byte rows bits (omega arith) (omega (arith, c.type_inv.bits (rows / 8))))

@@ -1,10 +1,10 @@
 -- `positions::write_rows` meets its contract: the table keeps its rule, which is tested here once, at every entry. Assumes nothing.
-use mathlib.Core.Path.{refl}
+use Rattle.std.proofs.Common.{refl}
 use Rattle.bits.specs.SetBits.{places_in}
+use Rattle.positions.specs.declared.table.TheConstants.{POSITIONS}
 use Rattle.positions.proofs.TableRule.{right_place, holds_places}
 use Rattle.positions.proofs.write_rows.Goals as goal
 
-pub write_by-requires : goal.write_by-requires
+pub invariant_of-positions : goal.invariant_of-positions
 unfolding right_place places_in
-write_by-requires c =
-    record { table = holds_places _ refl tt; rows = c.requires }
+invariant_of-positions c = record { right = holds_places POSITIONS refl tt }

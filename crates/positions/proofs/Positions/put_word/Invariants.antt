@@ -1,6 +1,6 @@
--- What the loop of `put_word` keeps, and what each turn makes less.
+-- What the loop of `Positions::put_word` keeps, and what each turn makes less.
 use Rattle.positions.proofs.ByteOfWord.{Passed}
-use Rattle.positions.proofs.put_word.Given as goal
+use Rattle.positions.proofs.Positions.put_word.Given as goal
 
 abbrev pub invariant-loop-rest : goal.invariant-loop-rest
 invariant-loop-rest l = Passed l.word l.first l.at l.all l.initial.out l.out l.next l.rest l.passed
