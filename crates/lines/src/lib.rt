@@ -81,12 +81,9 @@ fn put_cells(out: &mut [u8], from: usize, at: usize, file: &[u8], shape: Shape, 
     ensures { WroteUpTo (at + most_columns * longest_cell) from at (cells file.now row shape.columns)
         out.old out.new result }
 {
-    let columns = shape.columns;
     let mut next = at;
-    let mut column = 0;
-    while column < columns {
+    for column in 0..shape.columns {
         next = put_cell(out, from, next, cells::code_at(file, shape, column, row));
-        column = column + 1;
     }
     next
 }

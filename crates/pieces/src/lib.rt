@@ -31,10 +31,8 @@ pub fn put_word(out: &mut [u8], from: usize, at: usize, word: &[u8]) -> usize
     ensures { Wrote from at word.now out.old out.new result }
 {
     let mut next = at;
-    let mut i = 0;
-    while i < word.len() {
-        next = put(out, from, next, word[i]);
-        i = i + 1;
+    for byte in word {
+        next = put(out, from, next, *byte);
     }
     next
 }

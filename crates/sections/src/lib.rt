@@ -33,8 +33,7 @@ pub fn test_lines(
 {
     let rows = shape.rows;
     let mut next = at;
-    let mut t = 0;
-    while t < count {
+    for t in 0..count {
         let test = tests[t];
         let column = test.column;
         let width = register::width_at(file, shape, column);
@@ -46,7 +45,6 @@ pub fn test_lines(
             counts[t],
             rows * codes::slices_of(width),
         );
-        t = t + 1;
     }
     next
 }
@@ -64,12 +62,9 @@ pub fn row_lines(
     ensures { Wrote from at (row_lines file.now (marked_below shape.rows bits.now))
         out.old out.new result }
 {
-    let rows = shape.rows;
     let mut next = at;
-    let mut row = 0;
-    while row < rows {
+    for row in 0..shape.rows {
         next = put_row(out, from, next, file, shape, bits, row);
-        row = row + 1;
     }
     next
 }
