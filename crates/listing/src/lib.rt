@@ -13,6 +13,7 @@ use answers::Refusal;
 use finding::Found;
 use limits::{MOST_BITS, MOST_FILE, MOST_TEXT};
 use lines::{head_line, refused_line};
+use pieces::Piece;
 use sections::{row_lines, test_lines};
 
 // Writes a piece of what the program prints, of a file that was taken or not and a text that was given
@@ -94,15 +95,23 @@ pub fn write_found(
     requires { Listable file.now found }
     ensures { PieceWritten (found_lines file.now bits.now found) from out.old out.new result }
 {
+    let mut piece = Piece::new(out, from);
     let refusal = found.refusal;
     if refusal.number != 0 {
-        return refused_line(out, from, refusal);
+        refused_line(&mut piece, refusal);
+        return piece.at;
     }
     let shape = found.shape;
     let query = found.query;
-    let tests = query.tests;
-    let counts = found.counts;
-    let next = head_line(out, from, shape.rows, found.matches);
-    let next = test_lines(out, from, next, file, shape, tests, query.count, counts);
-    row_lines(out, from, next, file, shape, bits)
+    head_line(&mut piece, shape.rows, found.matches);
+    test_lines(
+        &mut piece,
+        file,
+        shape,
+        query.tests,
+        query.count,
+        found.counts,
+    );
+    row_lines(&mut piece, file, shape, bits);
+    piece.at
 }

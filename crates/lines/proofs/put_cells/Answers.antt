@@ -20,18 +20,18 @@ cell_more file row column = rw (add-one column) (joined_one_more (Î» c. space âˆ
 
 pub loop-column-init : goal.loop-column-init
 unfolding cells flatten
-loop-column-init c = (omega arith, wrote_nothing _ _ _)
+loop-column-init c = (omega arith, wrote_nothing _)
 
-pub put_cell-next-requires : goal.put_cell-next-requires
-put_cell-next-requires c =
+pub put_cell-requires : goal.put_cell-requires
+put_cell-requires c =
     omega (arith, few_columns_as_opened _ c.args.shape c.requires.opened)
 
 pub loop-column-preserved : goal.loop-column-preserved
 loop-column-preserved c =
     let turn = c.loop-column in
     let a = c.args in
-    let written = rw c.code_at.ensures at c.put_cell-next.ensures.wrote in (
-      omega (arith, c.put_cell-next.ensures.within),
+    let written = rw c.code_at.ensures at c.put_cell.ensures.wrote in (
+      omega (arith, c.put_cell.ensures.within),
       rw (cell_more a.file.now a.row turn.column) (written_then turn.invariant.1 written),
     )
 

@@ -7,10 +7,11 @@ use Rattle.listing.proofs.write_found.Goals as goal
 pub returns-then-refusal-ne0 : goal.returns-then-refusal-ne0
 returns-then-refusal-ne0 c =
     let a = c.args in
-    rw (refusal_listed a.file.now a.bits.now a.found c.if-refusal-ne0.true) (piece_written c.refused_line.ensures)
+    rw (refusal_listed a.file.now a.bits.now a.found c.if-refusal-ne0.true)
+    (piece_written c.new-piece.ensures c.refused_line.ensures (search rules))
 
-pub test_lines-next-requires : goal.test_lines-next-requires
-test_lines-next-requires c =
+pub test_lines-requires : goal.test_lines-requires
+test_lines-requires c =
     let can = c.requires c.if-refusal-ne0.false in
     search rules
 
@@ -22,6 +23,5 @@ row_lines-requires c =
 pub returns : goal.returns
 returns c =
     let a = c.args in
-    rw (rows_listed a.file.now a.bits.now a.found c.if-refusal-ne0.false)
-    (piece_written
-    (written_then c.head_line-next.ensures.wrote (written_then c.test_lines-next.ensures.wrote c.row_lines.ensures)))
+    let lines = written_then c.head_line.ensures.wrote (written_then c.test_lines.ensures.wrote c.row_lines.ensures) in
+    rw (rows_listed a.file.now a.bits.now a.found c.if-refusal-ne0.false) (piece_written c.new-piece.ensures lines (search rules))

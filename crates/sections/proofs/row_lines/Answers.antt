@@ -11,10 +11,10 @@ use Rattle.sections.proofs.row_lines.Goals as goal
 
 pub loop-row-init : goal.loop-row-init
 unfolding marked_below row_lines flatten
-loop-row-init c = (omega arith, wrote_nothing _ _ _)
+loop-row-init c = (omega arith, wrote_nothing _)
 
-pub put_row-next-requires : goal.put_row-next-requires
-put_row-next-requires c =
+pub put_row-requires : goal.put_row-requires
+put_row-requires c =
     record {
       early = omega (arith, few_rows_as_opened _ c.args.shape c.requires.opened);
       opened = c.requires.opened;
@@ -23,10 +23,10 @@ put_row-next-requires c =
 
 pub loop-row-preserved : goal.loop-row-preserved
 loop-row-preserved c =
-    let put = c.put_row-next.ensures in
+    let put = c.put_row.ensures in
     let turn = c.loop-row in
     let a = c.args in (
-      omega (arith, put.within),
+      omega arith,
       rw (row_more a.file.now a.bits.now turn.row) (written_then turn.invariant.1 put.wrote),
     )
 

@@ -13,14 +13,14 @@ use Rattle.sections.proofs.test_lines.Goals as goal
 
 pub loop-t-init : goal.loop-t-init
 unfolding test_lines flatten
-loop-t-init c = (omega arith, wrote_nothing _ _ _)
+loop-t-init c = (omega arith, wrote_nothing _)
 
 pub width_at-width-requires : goal.width_at-width-requires
 width_at-width-requires c =
     record { opened = c.requires.opened; there = c.requires.columns_there _ c.loop-t-test.true }
 
-pub overflow_mul-rows : goal.overflow_mul-rows
-overflow_mul-rows c =
+pub overflow_mul-most : goal.overflow_mul-most
+overflow_mul-most c =
     let there = c.requires.columns_there _ c.loop-t-test.true in
     let bytes = few_bytes_as_opened _ c.args.shape c.requires.opened _ there in
     let slices = c.slices_of.ensures ∙ ap slices_of c.width_at-width.ensures in
@@ -32,8 +32,8 @@ loop-t-preserved c =
     let turn = c.loop-t in
     let slices = c.slices_of.ensures ∙ ap slices_of c.width_at-width.ensures in
     let most = ap₂ (λ (a b : ℕ). a * b) (rows_as_opened _ c.args.shape c.requires.opened) slices in (
-      omega (arith, c.test_line-next.ensures.within),
-      rw (test_more _ _ _ turn.t) (written_then turn.invariant.1 (rw most at c.test_line-next.ensures.wrote)),
+      omega arith,
+      rw (test_more _ _ _ turn.t) (written_then turn.invariant.1 (rw most at c.test_line.ensures.wrote)),
     )
 
 pub returns : goal.returns

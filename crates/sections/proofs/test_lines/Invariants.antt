@@ -7,4 +7,4 @@ use Rattle.sections.proofs.test_lines.Given as goal
 
 abbrev pub invariant-loop-t : goal.invariant-loop-t
 invariant-loop-t l =
-    (l.next ≤ l.at + longest_line * l.t) × Wrote l.from l.at (test_lines l.file l.tests l.counts l.t) l.initial.out l.out l.next
+    (l.piece.at ≤ l.fn.piece.at + longest_line * l.t) × Wrote (test_lines l.file l.tests l.counts l.t) l.fn.piece l.piece

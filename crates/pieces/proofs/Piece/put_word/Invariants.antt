@@ -3,8 +3,8 @@ use Prim.Native.Nat.{◌+◌}
 use mathlib.Core.Path.{◌≡◌}
 use lib.ListN.{take}
 use Rattle.pieces.specs.Pieces.{Wrote}
-use Rattle.pieces.proofs.put_word.Given as goal
+use Rattle.pieces.proofs.Piece.put_word.Given as goal
 
 abbrev pub invariant-loop-byte : goal.invariant-loop-byte
 invariant-loop-byte l =
-    (l.next ≡ l.at + l.byte-index) × Wrote l.from l.at (take l.byte-index l.word) l.initial.out l.out l.next
+    (l.self.at ≡ l.fn.self.at + l.byte-index) × Wrote (take l.byte-index l.word) l.fn.self l.self
