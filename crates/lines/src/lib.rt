@@ -1,4 +1,4 @@
-// The lines of a listing, each written from a place on.
+// The lines of a listing, each put into a piece of it.
 
 #![tactic(auto)]
 
@@ -9,92 +9,75 @@ ghost use Rattle.pieces.specs.Pieces.{Wrote, WroteUpTo};
 ghost use Rattle.lines.specs.Lines.{head_line, test_line, cells, row_line, refused_line};
 ghost use Rattle.lines.specs.Steps.{RowAt};
 
-use pieces::{put, put_decimal, put_word};
+use pieces::Piece;
 use refusals::Refusal;
 use register::Shape;
 
 // The line of a refusal, which is the whole listing then.
-pub fn refused_line(out: &mut [u8], from: usize, refusal: Refusal) -> usize
-    ensures { Wrote from 0 (refused_line refusal) out.old out.new result }
+pub fn refused_line(piece: &mut Piece<'_>, refusal: Refusal)
+    requires { piece.old.at < 2 ^ 60 }
+    ensures { Wrote (refused_line refusal) piece.old piece.new }
 {
-    let next = put_word(out, from, 0, b"refused ");
-    let next = put_decimal(out, from, next, refusal.number());
-    let next = put(out, from, next, b' ');
-    let next = put_decimal(out, from, next, refusal.place() as u64);
-    put(out, from, next, b'\n')
+    piece.put_word(b"refused ");
+    piece.put_decimal(refusal.number());
+    piece.put(b' ');
+    piece.put_decimal(refusal.place() as u64);
+    piece.put(b'\n');
 }
 
 // The first line: the rows, and how many match.
-pub fn head_line(out: &mut [u8], from: usize, rows: usize, matches: usize) -> usize
-    ensures { WroteUpTo longest_line from 0 (head_line rows matches) out.old out.new result }
+pub fn head_line(piece: &mut Piece<'_>, rows: usize, matches: usize)
+    requires { piece.old.at < 2 ^ 60 }
+    ensures { WroteUpTo (piece.old.at + longest_line) (head_line rows matches) piece.old piece.new }
 {
-    let next = put_word(out, from, 0, b"rows ");
-    let next = put_decimal(out, from, next, rows as u64);
-    let next = put_word(out, from, next, b" matches ");
-    let next = put_decimal(out, from, next, matches as u64);
-    put(out, from, next, b'\n')
+    piece.put_word(b"rows ");
+    piece.put_decimal(rows as u64);
+    piece.put_word(b" matches ");
+    piece.put_decimal(matches as u64);
+    piece.put(b'\n');
 }
 
 // A test's line: its number, its count, and what it would count at most.
-pub fn test_line(
-    out: &mut [u8],
-    from: usize,
-    at: usize,
-    number: usize,
-    count: usize,
-    most: usize,
-) -> usize
-    requires { at < 2 ^ 60 }
-    ensures { WroteUpTo (at + longest_line) from at (test_line number count most) out.old out.new result }
+pub fn test_line(piece: &mut Piece<'_>, number: usize, count: usize, most: usize)
+    requires { piece.old.at < 2 ^ 60 }
+    ensures { WroteUpTo (piece.old.at + longest_line) (test_line number count most) piece.old piece.new }
 {
-    let next = put_word(out, from, at, b"test ");
-    let next = put_decimal(out, from, next, number as u64);
-    let next = put_word(out, from, next, b" read ");
-    let next = put_decimal(out, from, next, count as u64);
-    let next = put_word(out, from, next, b" of ");
-    let next = put_decimal(out, from, next, most as u64);
-    put(out, from, next, b'\n')
+    piece.put_word(b"test ");
+    piece.put_decimal(number as u64);
+    piece.put_word(b" read ");
+    piece.put_decimal(count as u64);
+    piece.put_word(b" of ");
+    piece.put_decimal(most as u64);
+    piece.put(b'\n');
 }
 
 // A row's line: its number, and its code in every column.
-pub fn row_line(
-    out: &mut [u8],
-    from: usize,
-    at: usize,
-    file: &[u8],
-    shape: Shape,
-    row: usize,
-) -> usize
-    requires { RowAt (2 ^ 60) at file.now shape row }
-    ensures { WroteUpTo (at + longest_line) from at (row_line file.now row) out.old out.new result }
+pub fn row_line(piece: &mut Piece<'_>, file: &[u8], shape: Shape, row: usize)
+    requires { RowAt (2 ^ 60) piece.old.at file.now shape row }
+    ensures { WroteUpTo (piece.old.at + longest_line) (row_line file.now row) piece.old piece.new }
 {
-    let next = put_word(out, from, at, b"row ");
-    let next = put_decimal(out, from, next, row as u64);
-    let next = put(out, from, next, b':');
-    let next = put_cells(out, from, next, file, shape, row);
-    put(out, from, next, b'\n')
+    piece.put_word(b"row ");
+    piece.put_decimal(row as u64);
+    piece.put(b':');
+    put_cells(piece, file, shape, row);
+    piece.put(b'\n');
 }
 
 // A row's code in every column, a space before each.
-fn put_cells(out: &mut [u8], from: usize, at: usize, file: &[u8], shape: Shape, row: usize) -> usize
-    requires { RowAt (2 ^ 60 + 100) at file.now shape row }
-    ensures { WroteUpTo (at + most_columns * longest_cell) from at (cells file.now row shape.columns)
-        out.old out.new result }
+fn put_cells(piece: &mut Piece<'_>, file: &[u8], shape: Shape, row: usize)
+    requires { RowAt (2 ^ 60 + 100) piece.old.at file.now shape row }
+    ensures { WroteUpTo (piece.old.at + most_columns * longest_cell) (cells file.now row shape.columns)
+        piece.old piece.new }
 {
-    let columns = shape.columns;
-    let mut next = at;
-    let mut column = 0;
-    while column < columns {
-        next = put_cell(out, from, next, cells::code_at(file, shape, column, row));
-        column = column + 1;
+    for column in 0..shape.columns {
+        put_cell(piece, cells::code_at(file, shape, column, row));
     }
-    next
 }
 
-fn put_cell(out: &mut [u8], from: usize, at: usize, code: u64) -> usize
-    requires { at < 2 ^ 60 + longest_line }
-    ensures { WroteUpTo (at + longest_cell) from at (space ∷ decimal code) out.old out.new result }
+fn put_cell(piece: &mut Piece<'_>, code: u64)
+    requires { piece.old.at < 2 ^ 60 + longest_line }
+    ensures { WroteUpTo (piece.old.at + longest_cell) (space ∷ decimal code) piece.old piece.new }
 {
-    let next = put(out, from, at, b' ');
-    put_decimal(out, from, next, code)
+    piece.put(b' ');
+    piece.put_decimal(code);
 }

@@ -16,7 +16,9 @@ use Rattle.text.specs.Reading.{Reads}
 use Rattle.scan.specs.declared.Scanned.{Scanned}
 use Rattle.bits.specs.Bits.{bytes_for}
 use Rattle.bits.specs.Marked.{marked_below}
-use Rattle.pieces.specs.Pieces.{Wrote, PieceWritten}
+use Rattle.std.specs.Borrow.{MutBor}
+use Rattle.pieces.specs.declared.Piece.{Piece}
+use Rattle.pieces.specs.Pieces.{Begun, Wrote, PieceWritten}
 use Rattle.pieces.proofs.WholePiece.{whole_piece}
 use Rattle.lines.specs.Lines.{head_line, refused_line}
 use Rattle.scan.proofs.Accepting.{opens}
@@ -28,10 +30,13 @@ use Rattle.listing.specs.Found.{Listable, accepted_lines, found_lines}
 use Rattle.listing.proofs.FoundLines.{reads_small, columns_below}
 use Rattle.finding.proofs.Outcomes.{accepted_scan}
 
-pub piece_written : {from : ℕ} {list before after : List ℕ} {answer : ℕ} → Wrote from 0 list before after answer →
-    PieceWritten list from before after answer
-piece_written {from} {list} {before} wrote =
-    record { piece = wrote.written ∙ whole_piece before from list; whole = wrote.behind ∙ zero-add (length list) }
+pub piece_written : {out : MutBor (List ℕ)} {from : ℕ} {list after : List ℕ} {begun done : Piece} →
+    Begun out from begun → Wrote list begun done → after ≡ done.out.now → PieceWritten list from out.now after done.at
+piece_written {out} {from} {list} begun wrote kept =
+    record {
+      piece = kept ∙ wrote.written ∙ rw (begun.first, begun.same_place, begun.same_bytes) (whole_piece out.now from list);
+      whole = wrote.behind ∙ rw begun.first (zero-add (length list));
+    }
 
 module _ (file before bits : List ℕ) (found : Result Found Refusal) where
   pub same_listing : (asked : Result Asked Refusal) → FoundBy file asked before bits found →

@@ -6,12 +6,13 @@
 ghost use Rattle.std.specs.Prelude.{◌≡◌, length};
 ghost use Rattle.pieces.specs.Pieces.{PieceWritten};
 ghost use Rattle.listing.specs.Listing.{Listed};
-ghost use Rattle.listing.specs.Found.{FoundThere, Listable, accepted_lines, found_lines};
+ghost use Rattle.listing.specs.Found.{Listable, found_lines};
 ghost use Rattle.listing.specs.Inputs.{unread_input, unread_inputs, FoundRead, ListedRead};
 
 use finding::Found;
 use limits::{MOST_BITS, MOST_FILE, MOST_TEXT};
 use lines::{head_line, refused_line};
+use pieces::Piece;
 use refusals::Refusal;
 use sections::{row_lines, test_lines};
 
@@ -84,28 +85,25 @@ pub fn write_found(
     requires { Listable file.now found }
     ensures { PieceWritten (found_lines file.now bits.now found) from out.old out.new result }
 {
-    match found {
-        Ok(found) => write_accepted(file, found, bits, from, out),
-        Err(refusal) => refused_line(out, from, refusal),
-    }
-}
-
-// The listing of what was found where nothing is refused: the first line, the tests, the rows.
-fn write_accepted(
-    file: &[u8],
-    found: Found,
-    bits: &[u8; MOST_BITS],
-    from: usize,
-    out: &mut [u8],
-) -> usize
-    requires { FoundThere file.now found }
-    ensures { PieceWritten (accepted_lines file.now bits.now found) from out.old out.new result }
-{
+    let mut piece = Piece::new(out, from);
+    let found = match found {
+        Ok(found) => found,
+        Err(refusal) => {
+            refused_line(&mut piece, refusal);
+            return piece.at;
+        }
+    };
     let shape = found.shape;
     let query = found.query;
-    let tests = query.tests;
-    let counts = found.counts;
-    let next = head_line(out, from, shape.rows, found.matches);
-    let next = test_lines(out, from, next, file, shape, tests, query.count, counts);
-    row_lines(out, from, next, file, shape, bits)
+    head_line(&mut piece, shape.rows, found.matches);
+    test_lines(
+        &mut piece,
+        file,
+        shape,
+        query.tests,
+        query.count,
+        found.counts,
+    );
+    row_lines(&mut piece, file, shape, bits);
+    piece.at
 }

@@ -1,59 +1,62 @@
 // Bytes of a long listing, one after the other, of which a lent buffer takes a piece: those at places
-// from a first one on, as many as it has room for. A step is told the place of its first byte and
-// answers the place behind its last.
+// from a first one on, as many as it has room for.
 
 #![tactic(auto)]
 
 ghost use Rattle.std.specs.Prelude.{◌+◌, ◌^◌, ◌<◌, [], ◌∷◌};
 ghost use Rattle.limits.specs.Limits.{longest_decimal};
-ghost use Rattle.decimals.specs.Decimals.{digit, decimal};
-ghost use Rattle.pieces.specs.Pieces.{Wrote, WroteUpTo, DigitAt, WordAt};
+ghost use Rattle.decimals.specs.Decimals.{decimal};
+ghost use Rattle.pieces.specs.Pieces.{Begun, Wrote, WroteUpTo, WordAt};
 
-// One byte.
-pub fn put(out: &mut [u8], from: usize, at: usize, byte: u8) -> usize
-    requires { at < 2 ^ 62 }
-    ensures { Wrote from at (byte ∷ []) out.old out.new result }
-{
-    if at < from {
-        return at + 1;
-    }
-    let place = at - from;
-    if out.len() <= place {
-        return at + 1;
-    }
-    out[place] = byte;
-    at + 1
+// A piece of a listing: the buffer that takes it, the place of the listing at which it begins, and the
+// place that has been reached.
+#[derive(Drop)]
+pub struct Piece<'a> {
+    pub out: &'a mut [u8],
+    pub from: usize,
+    pub at: usize,
 }
 
-// The bytes of a word.
-pub fn put_word(out: &mut [u8], from: usize, at: usize, word: &[u8]) -> usize
-    requires { WordAt at word.now }
-    ensures { Wrote from at word.now out.old out.new result }
-{
-    let mut next = at;
-    let mut i = 0;
-    while i < word.len() {
-        next = put(out, from, next, word[i]);
-        i = i + 1;
+impl<'a> Piece<'a> {
+    // Nothing is written yet.
+    pub fn new(out: &'a mut [u8], from: usize) -> Piece<'a>
+        ensures { Begun out.entry from result }
+    {
+        Piece { out, from, at: 0 }
     }
-    next
-}
 
-// A number in decimal: that of its tenth, where it has one, and then its last digit.
-pub fn put_decimal(out: &mut [u8], from: usize, at: usize, number: u64) -> usize
-    requires { at < 2 ^ 61 }
-    ensures { WroteUpTo (at + longest_decimal) from at (decimal number) out.old out.new result }
-{
-    if number < 10 {
-        return put_digit(out, from, at, number);
+    // One byte.
+    #[tactic(auto, unfolding(crate::specs::Pieces::write_at, crate::specs::Pieces::put_at))]
+    pub fn put(&mut self, byte: u8)
+        requires { self.old.at < 2 ^ 62 }
+        ensures { Wrote (byte ∷ []) self.old self.new }
+    {
+        if self.from <= self.at && self.at - self.from < self.out.len() {
+            self.out[self.at - self.from] = byte;
+        }
+        self.at += 1;
     }
-    let next = put_decimal(out, from, at, number / 10);
-    put_digit(out, from, next, number % 10)
-}
 
-fn put_digit(out: &mut [u8], from: usize, at: usize, number: u64) -> usize
-    requires { DigitAt at number }
-    ensures { Wrote from at (digit number ∷ []) out.old out.new result }
-{
-    put(out, from, at, (48 + number) as u8)
+    // The bytes of a word.
+    pub fn put_word(&mut self, word: &[u8])
+        requires { WordAt self.old.at word.now }
+        ensures { Wrote word.now self.old self.new }
+    {
+        for byte in word {
+            self.put(*byte);
+        }
+    }
+
+    // A number in decimal: that of its tenth, where it has one, and then its last digit. Not by `write!`, which
+    // promises its bytes only where it answers `Ok`, nor by `InlineText`, which does not promise them whole.
+    pub fn put_decimal(&mut self, number: u64)
+        requires { self.old.at < 2 ^ 61 }
+        ensures { WroteUpTo (self.old.at + longest_decimal) (decimal number) self.old self.new }
+    {
+        if number < 10 {
+            return self.put(b'0' + number as u8);
+        }
+        self.put_decimal(number / 10);
+        self.put(b'0' + (number % 10) as u8)
+    }
 }

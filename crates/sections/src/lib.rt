@@ -13,83 +13,48 @@ ghost use Rattle.sections.specs.Steps.{TestsAt, RowsAt};
 
 use limits::MOST_TESTS;
 use lines::{row_line, test_line};
+use pieces::Piece;
 use query::Test;
 use register::Shape;
 
 // A line for each test.
 pub fn test_lines(
-    out: &mut [u8],
-    from: usize,
-    at: usize,
+    piece: &mut Piece<'_>,
     file: &[u8],
     shape: Shape,
     tests: [Test; MOST_TESTS],
     count: usize,
     counts: [usize; MOST_TESTS],
-) -> usize
-    requires { TestsAt at file.now shape tests count }
-    ensures { WroteUpTo (longest_line * suc most_tests) from at (test_lines file.now tests counts count)
-        out.old out.new result }
+)
+    requires { TestsAt piece.old.at file.now shape tests count }
+    ensures { WroteUpTo (longest_line * suc most_tests) (test_lines file.now tests counts count)
+        piece.old piece.new }
 {
-    let rows = shape.rows;
-    let mut next = at;
-    let mut t = 0;
-    while t < count {
+    for t in 0..count {
         let test = tests[t];
-        let column = test.column;
-        let width = register::width_at(file, shape, column);
-        next = test_line(
-            out,
-            from,
-            next,
-            t,
-            counts[t],
-            rows * codes::slices_of(width),
-        );
-        t = t + 1;
+        let width = register::width_at(file, shape, test.column);
+        let most = shape.rows * codes::slices_of(width);
+        test_line(piece, t, counts[t], most);
     }
-    next
 }
 
 // A line for each row whose bit is set.
-pub fn row_lines(
-    out: &mut [u8],
-    from: usize,
-    at: usize,
-    file: &[u8],
-    shape: Shape,
-    bits: &[u8],
-) -> usize
-    requires { RowsAt at file.now shape }
-    ensures { Wrote from at (row_lines file.now (marked_below shape.rows bits.now))
-        out.old out.new result }
+pub fn row_lines(piece: &mut Piece<'_>, file: &[u8], shape: Shape, bits: &[u8])
+    requires { RowsAt piece.old.at file.now shape }
+    ensures { Wrote (row_lines file.now (marked_below shape.rows bits.now)) piece.old piece.new }
 {
-    let rows = shape.rows;
-    let mut next = at;
-    let mut row = 0;
-    while row < rows {
-        next = put_row(out, from, next, file, shape, bits, row);
-        row = row + 1;
+    for row in 0..shape.rows {
+        put_row(piece, file, shape, bits, row);
     }
-    next
 }
 
 // The line of a row, where its bit is set.
-fn put_row(
-    out: &mut [u8],
-    from: usize,
-    at: usize,
-    file: &[u8],
-    shape: Shape,
-    bits: &[u8],
-    row: usize,
-) -> usize
-    requires { RowAt (2 ^ 60) at file.now shape row }
-    ensures { WroteUpTo (at + longest_line) from at (row_lines file.now (those (marked bits.now) (row ∷ [])))
-        out.old out.new result }
+fn put_row(piece: &mut Piece<'_>, file: &[u8], shape: Shape, bits: &[u8], row: usize)
+    requires { RowAt (2 ^ 60) piece.old.at file.now shape row }
+    ensures { WroteUpTo (piece.old.at + longest_line) (row_lines file.now (those (marked bits.now) (row ∷ [])))
+        piece.old piece.new }
 {
     if bits::is_marked(bits, row) {
-        return row_line(out, from, at, file, shape, row);
+        row_line(piece, file, shape, row);
     }
-    at
 }

@@ -7,11 +7,8 @@ use Rattle.lines.proofs.head_line.Goals as goal
 pub returns : goal.returns
 unfolding head_line
 returns c =
-    let matches = written_then c.put_word-next-2.ensures (written_then c.put_decimal-next-2.ensures.wrote c.put.ensures) in
-    let first = c.put_word-next.ensures.behind in
-    let second = c.put_word-next-2.ensures.behind in
-    let end = c.put.ensures.behind in
+    let matches = written_then c.put_word-2.ensures (written_then c.put_decimal-2.ensures.wrote c.put.ensures) in
     record {
-      wrote = written_then c.put_word-next.ensures (written_then c.put_decimal-next.ensures.wrote matches);
-      within = omega (arith, c.put_decimal-next.ensures.within, c.put_decimal-next-2.ensures.within, first, second, end);
+      wrote = written_then c.put_word.ensures (written_then c.put_decimal.ensures.wrote matches);
+      within = omega arith;
     }

@@ -4,8 +4,4 @@ use Rattle.pieces.proofs.Writing.{written_then}
 use Rattle.lines.proofs.put_cell.Goals as goal
 
 pub returns : goal.returns
-returns c =
-    record {
-      wrote = written_then c.put-next.ensures c.put_decimal.ensures.wrote;
-      within = omega (arith, c.put_decimal.ensures.within, c.put-next.ensures.behind);
-    }
+returns c = record { wrote = written_then c.put.ensures c.put_decimal.ensures.wrote; within = omega arith }

@@ -8,7 +8,7 @@ use Rattle.basis.proofs.Lists.{joined_one_more}
 use Rattle.register.specs.Cells.{code_at}
 use Rattle.decimals.specs.Decimals.{decimal, space}
 use Rattle.lines.specs.Lines.{cells}
-use Rattle.pieces.proofs.Writing.{same_room, wrote_nothing, written_then}
+use Rattle.pieces.proofs.Writing.{wrote_nothing, written_then}
 use Rattle.register.proofs.Fit.{few_columns_as_opened}
 use Rattle.lines.proofs.put_cells.Goals as goal
 
@@ -20,32 +20,26 @@ cell_more file row column = rw (add-one column) (joined_one_more (λ c. space �
 
 pub loop-column-init : goal.loop-column-init
 unfolding cells flatten
-loop-column-init c = (omega arith, (omega arith, wrote_nothing _ _ _))
+loop-column-init c = (omega arith, wrote_nothing _)
 
-pub put_cell-next-requires : goal.put_cell-next-requires
-put_cell-next-requires c =
+pub put_cell-requires : goal.put_cell-requires
+put_cell-requires c =
     omega (arith, few_columns_as_opened _ c.args.shape c.requires.opened)
 
 pub loop-column-preserved : goal.loop-column-preserved
 loop-column-preserved c =
     let turn = c.loop-column in
     let a = c.args in
-    let written = rw c.code_at.ensures at c.put_cell-next.ensures.wrote in (
-      omega arith,
-      (
-        omega (arith, c.put_cell-next.ensures.within),
-        rw (cell_more a.file.now a.row turn.column) (written_then turn.invariant.1.1 written),
-      ),
+    let written = rw c.code_at.ensures at c.put_cell.ensures.wrote in (
+      omega (arith, c.put_cell.ensures.within),
+      rw (cell_more a.file.now a.row turn.column) (written_then turn.invariant.1 written),
     )
-
-pub shape_of-out : goal.shape_of-out
-shape_of-out c = same_room c.loop-column.invariant.1.1
 
 pub returns : goal.returns
 returns c =
     let turn = c.loop-column in
     let all : turn.column ≡ c.args.shape.columns = omega arith in
     record {
-      wrote = rw all at turn.invariant.1.1;
+      wrote = rw all at turn.invariant.1;
       within = omega (arith, few_columns_as_opened _ c.args.shape c.requires.opened);
     }

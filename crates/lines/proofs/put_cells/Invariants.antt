@@ -1,12 +1,10 @@
--- What the loop of `put_cells` keeps, and what each turn makes less.
-use Prim.Native.Nat.{◌+◌, ◌-◌, ◌*◌, ◌≤◌}
+-- What the loop of `put_cells` keeps. Assumes nothing.
+use Prim.Native.Nat.{◌+◌, ◌*◌, ◌≤◌}
+use Rattle.limits.specs.Limits.{longest_cell}
 use Rattle.pieces.specs.Pieces.{Wrote}
 use Rattle.lines.specs.Lines.{cells}
 use Rattle.lines.proofs.put_cells.Given as goal
 
 abbrev pub invariant-loop-column : goal.invariant-loop-column
 invariant-loop-column l =
-    (l.column ≤ l.columns) × ((l.next ≤ l.at + 21 * l.column) × Wrote l.from l.at (cells l.file l.row l.column) l.initial.out l.out l.next)
-
-abbrev pub decreases-loop-column : goal.decreases-loop-column
-decreases-loop-column l = l.columns - l.column
+    (l.piece.at ≤ l.fn.piece.at + longest_cell * l.column) × Wrote (cells l.file l.row l.column) l.fn.piece l.piece

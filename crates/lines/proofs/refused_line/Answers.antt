@@ -6,5 +6,5 @@ use Rattle.lines.proofs.refused_line.Goals as goal
 pub returns : goal.returns
 unfolding refused_line
 returns c =
-    let place = written_then c.put-next.ensures (written_then c.put_decimal-next-2.ensures.wrote c.put.ensures) in
-    written_then c.put_word-next.ensures (written_then c.put_decimal-next.ensures.wrote place)
+    let place = written_then c.put.ensures (written_then c.put_decimal-2.ensures.wrote c.put-2.ensures) in
+    written_then c.put_word.ensures (written_then c.put_decimal.ensures.wrote place)

@@ -9,12 +9,6 @@ pub returns : goal.returns
 unfolding row_line
 returns c =
     let columns = columns_as_opened _ c.args.shape c.requires.opened in
-    let codes = written_then (rw columns at c.put_cells-next.ensures.wrote) c.put.ensures in
-    let number = written_then c.put_decimal-next.ensures.wrote (written_then c.put-next.ensures codes) in
-    let word = c.put_word-next.ensures.behind in
-    let mark = c.put-next.ensures.behind in
-    let end = c.put.ensures.behind in
-    record {
-      wrote = written_then c.put_word-next.ensures number;
-      within = omega (arith, c.put_decimal-next.ensures.within, c.put_cells-next.ensures.within, word, mark, end);
-    }
+    let codes = written_then (rw columns at c.put_cells.ensures.wrote) c.put-2.ensures in
+    let number = written_then c.put_decimal.ensures.wrote (written_then c.put.ensures codes) in
+    record { wrote = written_then c.put_word.ensures number; within = omega arith }

@@ -1,6 +1,13 @@
--- `listing::write_found` meets its contract: the lines of the answer, or the line of the refusal. Assumes nothing.
+-- `listing::write_found` meets its contract: the line of the refusal, or the lines of the answer one behind the other. Assumes nothing.
+use borrow.Author.Rules.{rules}
+use Rattle.pieces.proofs.Writing.{written_then}
+use Rattle.listing.specs.Found.{accepted_lines}
 use Rattle.listing.proofs.FoundListing.{piece_written}
 use Rattle.listing.proofs.write_found.Goals as goal
 
 pub returns-in-Err : goal.returns-in-Err
 returns-in-Err c = ?
+
+pub returns : goal.returns
+unfolding accepted_lines
+returns c = ?

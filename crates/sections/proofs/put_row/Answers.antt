@@ -14,8 +14,8 @@ returns-then-is_marked c =
       within = c.row_line.ensures.within;
     }
 
-pub returns : goal.returns
-returns c =
+pub returns-else-is_marked : goal.returns-else-is_marked
+returns-else-is_marked c =
     let a = c.args in
     let is = sym c.is_marked.ensures ∙ c.if-is_marked.false in
-    record { wrote = rw (unmarked_line a.file.now a.bits.now a.row is) (wrote_nothing _ _ _); within = omega arith }
+    record { wrote = rw (unmarked_line a.file.now a.bits.now a.row is) (wrote_nothing _); within = omega arith }

@@ -4,17 +4,17 @@ use mathlib.Core.Path.{◌≡◌}
 use mathlib.Core.List.{flatten}
 use Rattle.bits.specs.Marked.{marked_below}
 use Rattle.sections.specs.Sections.{row_lines}
-use Rattle.pieces.proofs.Writing.{same_room, wrote_nothing, written_then}
+use Rattle.pieces.proofs.Writing.{wrote_nothing, written_then}
 use Rattle.sections.proofs.OneMore.{row_more}
 use Rattle.register.proofs.Fit.{few_rows_as_opened}
 use Rattle.sections.proofs.row_lines.Goals as goal
 
 pub loop-row-init : goal.loop-row-init
 unfolding marked_below row_lines flatten
-loop-row-init c = (omega arith, (omega arith, wrote_nothing _ _ _))
+loop-row-init c = (omega arith, wrote_nothing _)
 
-pub put_row-next-requires : goal.put_row-next-requires
-put_row-next-requires c =
+pub put_row-requires : goal.put_row-requires
+put_row-requires c =
     record {
       early = omega (arith, few_rows_as_opened _ c.args.shape c.requires.opened);
       opened = c.requires.opened;
@@ -23,21 +23,15 @@ put_row-next-requires c =
 
 pub loop-row-preserved : goal.loop-row-preserved
 loop-row-preserved c =
-    let put = c.put_row-next.ensures in
+    let put = c.put_row.ensures in
     let turn = c.loop-row in
     let a = c.args in (
       omega arith,
-      (
-        omega (arith, put.within),
-        rw (row_more a.file.now a.bits.now turn.row) (written_then turn.invariant.1.1 put.wrote),
-      ),
+      rw (row_more a.file.now a.bits.now turn.row) (written_then turn.invariant.1 put.wrote),
     )
-
-pub shape_of-out : goal.shape_of-out
-shape_of-out c = same_room c.loop-row.invariant.1.1
 
 pub returns : goal.returns
 returns c =
     let turn = c.loop-row in
     let all : turn.row ≡ c.args.shape.rows = omega arith in
-    rw all at turn.invariant.1.1
+    rw all at turn.invariant.1

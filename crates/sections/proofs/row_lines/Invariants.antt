@@ -1,5 +1,5 @@
--- What the loop of `row_lines` keeps, and what each turn makes less.
-use Prim.Native.Nat.{◌+◌, ◌-◌, ◌*◌, ◌≤◌}
+-- What the loop of `row_lines` keeps. Assumes nothing.
+use Prim.Native.Nat.{◌+◌, ◌*◌, ◌≤◌}
 use Rattle.limits.specs.Limits.{longest_line}
 use Rattle.bits.specs.Marked.{marked_below}
 use Rattle.pieces.specs.Pieces.{Wrote}
@@ -8,7 +8,4 @@ use Rattle.sections.proofs.row_lines.Given as goal
 
 abbrev pub invariant-loop-row : goal.invariant-loop-row
 invariant-loop-row l =
-    (l.row ≤ l.rows) × ((l.next ≤ l.at + longest_line * l.row) × Wrote l.from l.at (row_lines l.file (marked_below l.row l.bits)) l.initial.out l.out l.next)
-
-abbrev pub decreases-loop-row : goal.decreases-loop-row
-decreases-loop-row l = l.rows - l.row
+    (l.piece.at ≤ l.fn.piece.at + longest_line * l.row) × Wrote (row_lines l.file (marked_below l.row l.bits)) l.fn.piece l.piece

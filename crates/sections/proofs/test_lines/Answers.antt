@@ -6,21 +6,21 @@ use mathlib.Core.List.{flatten}
 use Rattle.codes.specs.Width.{slices_of}
 use Rattle.limits.specs.Limits.{most_rows, most_slices}
 use Rattle.sections.specs.Sections.{test_lines}
-use Rattle.pieces.proofs.Writing.{same_room, wrote_nothing, written_then}
+use Rattle.pieces.proofs.Writing.{wrote_nothing, written_then}
 use Rattle.sections.proofs.OneMore.{test_more}
 use Rattle.register.proofs.Fit.{rows_as_opened, few_bytes_as_opened}
 use Rattle.sections.proofs.test_lines.Goals as goal
 
 pub loop-t-init : goal.loop-t-init
 unfolding test_lines flatten
-loop-t-init c = (omega arith, (omega arith, wrote_nothing _ _ _))
+loop-t-init c = (omega arith, wrote_nothing _)
 
 pub width_at-width-requires : goal.width_at-width-requires
 width_at-width-requires c =
     record { opened = c.requires.opened; there = c.requires.columns_there _ c.loop-t-test.true }
 
-pub overflow_mul-rows : goal.overflow_mul-rows
-overflow_mul-rows c =
+pub overflow_mul-most : goal.overflow_mul-most
+overflow_mul-most c =
     let there = c.requires.columns_there _ c.loop-t-test.true in
     let bytes = few_bytes_as_opened _ c.args.shape c.requires.opened _ there in
     let slices = c.slices_of.ensures ∙ ap slices_of c.width_at-width.ensures in
@@ -33,17 +33,11 @@ loop-t-preserved c =
     let slices = c.slices_of.ensures ∙ ap slices_of c.width_at-width.ensures in
     let most = ap₂ (λ (a b : ℕ). a * b) (rows_as_opened _ c.args.shape c.requires.opened) slices in (
       omega arith,
-      (
-        omega (arith, c.test_line-next.ensures.within),
-        rw (test_more _ _ _ turn.t) (written_then turn.invariant.1.1 (rw most at c.test_line-next.ensures.wrote)),
-      ),
+      rw (test_more _ _ _ turn.t) (written_then turn.invariant.1 (rw most at c.test_line.ensures.wrote)),
     )
-
-pub shape_of-out : goal.shape_of-out
-shape_of-out c = same_room c.loop-t.invariant.1.1
 
 pub returns : goal.returns
 returns c =
     let turn = c.loop-t in
     let all : turn.t ≡ c.args.count = omega arith in
-    record { wrote = rw all at turn.invariant.1.1; within = omega arith }
+    record { wrote = rw all at turn.invariant.1; within = omega arith }

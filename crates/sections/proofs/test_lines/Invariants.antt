@@ -1,5 +1,5 @@
--- What the loop of `test_lines` keeps, and what each turn makes less.
-use Prim.Native.Nat.{◌+◌, ◌-◌, ◌*◌, ◌≤◌}
+-- What the loop of `test_lines` keeps. Assumes nothing.
+use Prim.Native.Nat.{◌+◌, ◌*◌, ◌≤◌}
 use Rattle.limits.specs.Limits.{longest_line}
 use Rattle.pieces.specs.Pieces.{Wrote}
 use Rattle.sections.specs.Sections.{test_lines}
@@ -7,7 +7,4 @@ use Rattle.sections.proofs.test_lines.Given as goal
 
 abbrev pub invariant-loop-t : goal.invariant-loop-t
 invariant-loop-t l =
-    (l.t ≤ l.count) × ((l.next ≤ l.at + longest_line * l.t) × Wrote l.from l.at (test_lines l.file l.tests l.counts l.t) l.initial.out l.out l.next)
-
-abbrev pub decreases-loop-t : goal.decreases-loop-t
-decreases-loop-t l = l.count - l.t
+    (l.piece.at ≤ l.fn.piece.at + longest_line * l.t) × Wrote (test_lines l.file l.tests l.counts l.t) l.fn.piece l.piece
