@@ -6,5 +6,6 @@ use Rattle.lines.proofs.refused_line.Goals as goal
 pub returns : goal.returns
 unfolding refused_line
 returns c =
-    let place = written_then c.put.ensures (written_then c.put_decimal-2.ensures.wrote c.put-2.ensures) in
-    written_then c.put_word.ensures (written_then c.put_decimal.ensures.wrote place)
+    let number = rw c.number.ensures at c.put_decimal.ensures.wrote in
+    let place = rw c.place.ensures at c.put_decimal-2.ensures.wrote in
+    written_then c.put_word.ensures (written_then number (written_then c.put.ensures (written_then place c.put-2.ensures)))
