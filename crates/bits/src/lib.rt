@@ -77,7 +77,7 @@ pub fn word_at(bits: &[u8], i: usize, many: usize) -> usize
     numbers::number_of(&bits[i..end])
 }
 
-// How many bits of a word are set.
+// How many bits of a word are set. A trait for words and bytes would be longer than the two functions.
 fn ones_in(word: usize) -> usize
     ensures { OnesIn word result }
 {
