@@ -79,7 +79,7 @@ pub fn scanned_reply(scanned: Result<Scanned, Refusal>) -> [u64; SCAN_NUMBERS]
 {
     match scanned {
         Ok(scanned) => counted_reply(scanned),
-        Err(refusal) => refused_reply(refusal),
+        Err(unscanned) => refused_reply(unscanned),
     }
 }
 
