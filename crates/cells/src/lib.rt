@@ -26,21 +26,13 @@ pub fn code_of(file: &[u8], width: u8, offset: usize, rows: usize, row: usize) -
     requires { CodeWithin file.now width offset rows row }
     ensures { result ≡ joined width (gathered file.now width offset rows row) }
 {
-    let slices = codes::slices_of(width);
-    let first = byte_at(file, offset, rows, row, 0);
-    if slices == 1 {
-        return codes::join(width, &[first]);
+    let byte = |slice| byte_at(file, offset, rows, row, slice);
+    match codes::slices_of(width) {
+        1 => codes::join(width, &[byte(0)]),
+        2 => codes::join(width, &[byte(0), byte(1)]),
+        3 => codes::join(width, &[byte(0), byte(1), byte(2)]),
+        _ => codes::join(width, &[byte(0), byte(1), byte(2), byte(3)]),
     }
-    let second = byte_at(file, offset, rows, row, 1);
-    if slices == 2 {
-        return codes::join(width, &[first, second]);
-    }
-    let third = byte_at(file, offset, rows, row, 2);
-    if slices == 3 {
-        return codes::join(width, &[first, second, third]);
-    }
-    let fourth = byte_at(file, offset, rows, row, 3);
-    codes::join(width, &[first, second, third, fourth])
 }
 
 // The byte of a row in a slice, counted from 0, of a column that starts at the offset.

@@ -7,6 +7,12 @@ use Rattle.register.specs.Opening.{opened_of}
 abbrev pub AllBelow : ℕ → List ℕ → Type 0
 AllBelow bound list = (i : ℕ) → i < length list → get_or list i 0 < bound
 
+-- the first index at which the list has a number that is not below a bound
+pub record IsFirstMissing (bound : ℕ) (list : List ℕ) (i : ℕ) : Type 0 where
+  pub inside : i < length list
+  pub above : bound ≤ get_or list i 0
+  pub before : (k : ℕ) → k < i → get_or list k 0 < bound
+
 -- no listed number is above a bound
 abbrev pub NoneAbove : ℕ → List ℕ → Type 0
 NoneAbove bound list = (i : ℕ) → i < length list → get_or list i 0 ≤ bound

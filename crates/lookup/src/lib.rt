@@ -2,11 +2,11 @@
 
 #![tactic(auto)]
 
-ghost use Rattle.std.specs.Prelude.{◌≡◌, length};
+ghost use Rattle.std.specs.Prelude.{◌≡◌, length, MatchOption};
 ghost use Rattle.basis.specs.Buffers.{laid};
 ghost use Rattle.answers.specs.Answers.{shown_of};
-ghost use Rattle.lookup.specs.Steps.{NoneAbove, ToLookUp};
-ghost use Rattle.lookup.specs.LookingUp.{first_missing, codes_of, looked_up_of, shown_for, left_in};
+ghost use Rattle.lookup.specs.Steps.{AllBelow, IsFirstMissing, NoneAbove, ToLookUp};
+ghost use Rattle.lookup.specs.LookingUp.{codes_of, looked_up_of, shown_for, left_in};
 
 use refusals::Refusal;
 use register::Shape;
@@ -22,9 +22,8 @@ pub fn look_up(file: &[u8], column: usize, rows: &[u32], out: &mut [u64]) -> Res
     if shape.columns <= column {
         return Err(Refusal::NoSuchColumn(0));
     }
-    let missing = first_missing(shape.rows, rows);
-    if missing < rows.len() {
-        return Err(Refusal::NoSuchRow(missing));
+    if let Some(i) = first_missing(shape.rows, rows) {
+        return Err(Refusal::NoSuchRow(i));
     }
     if out.len() < rows.len() {
         return Err(Refusal::OutputTooShort(rows.len()));
@@ -33,23 +32,15 @@ pub fn look_up(file: &[u8], column: usize, rows: &[u32], out: &mut [u64]) -> Res
     Ok(rows.len())
 }
 
-// The lowest index of a row number that is not below the rows, or the length of the list. Mostly there
-// is none, which the greatest number tells sooner than the search.
-fn first_missing(rows: usize, list: &[u32]) -> usize
-    ensures { result ≡ first_missing rows list.now }
+// The lowest index of a row number that is not below the rows. Mostly there is none, which the greatest
+// number tells sooner than the search.
+fn first_missing(rows: usize, list: &[u32]) -> Option<usize>
+    ensures { MatchOption result (AllBelow rows list.now) (IsFirstMissing rows list.now) }
 {
-    let greatest = greatest_of(list) as usize;
-    if greatest < rows {
-        return list.len();
+    if (greatest_of(list) as usize) < rows {
+        return None;
     }
-    let mut i = 0;
-    while i < list.len() {
-        if rows <= list[i] as usize {
-            return i;
-        }
-        i = i + 1;
-    }
-    i
+    list.iter().position(|row| rows <= *row as usize)
 }
 
 // A number that no listed one exceeds: the greatest of them, or 0 where there is none.

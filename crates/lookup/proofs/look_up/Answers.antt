@@ -1,22 +1,24 @@
 -- `lookup::look_up` meets its contract: opening first, then each test is a line of the table, in its order. Assumes nothing.
-use Prim.Native.Nat.{ℕ, ◌≤◌, ◌<◌}
+use Prim.Native.Nat.{◌≤◌, ◌<◌}
+use native.Mathlib.Omega.{arith}
 use Rattle.std.specs.Prelude.{Ok}
 use Rattle.std.proofs.lemmas.Result.{err_from_is_err_and}
-use native.Mathlib.Omega.{arith}
 use mathlib.Core.Path.{◌≡◌, refl, sym, ap, ◌∙◌}
 use lib.Dec.{leb}
 use lib.ListN.{length, get_or}
-use borrow.Author.Tests.{lt-ltb, le-leb, leb-false}
-use Rattle.basis.proofs.Places.{none_before_first}
+use borrow.Author.Tests.{lt-ltb, lt-leb, le-leb}
+use Rattle.basis.proofs.Places.{first_is, first_is_none}
 use Rattle.basis.proofs.Refusals.{stops}
 use Rattle.answers.proofs.Replies.{refused_by, accepted_by}
+use Rattle.directory.specs.File.{rows_in}
 use Rattle.register.specs.Opening.{opened_of}
 use Rattle.register.proofs.Fit.{rows_as_opened, columns_as_opened}
 use Rattle.register.proofs.PassedOn.{file_refused}
 use Rattle.lookup.specs.LookingUp.{first_missing, own_lines}
+use Rattle.lookup.specs.Steps.{AllBelow}
 use Rattle.lookup.proofs.LookingUp as looking
 use Rattle.lookup.proofs.look_up.Goals as goal
-use Rattle.lookup.proofs.look_up.Goals.{Else-missing-rows, Else-shape-column, In_ok-shape}
+use Rattle.lookup.proofs.look_up.Goals.{Else-shape-column, In_ok-shape, In-Some, In_default-first_missing}
 
 -- past opening, the file is a register
 opened : (c : In_ok-shape) → opened_of c.args.file.now ≡ Ok c.in_ok-shape.shape
@@ -33,22 +35,32 @@ past_12 c =
     looking.column_there _ _ _ _ _ (sym c.in_ok-shape.ensures.answer) c.if-shape-column.false
 
 -- past 15, every listed row is there
-there : (c : Else-missing-rows) → c.args.column < c.in_ok-shape.shape.columns
+there : (c : In_default-first_missing) → c.args.column < c.in_ok-shape.shape.columns
 there c = c.if-shape-column.false
 
-none_missing : (c : Else-missing-rows) → length c.args.rows.now ≤ first_missing c.in_ok-shape.shape.rows c.args.rows.now
-none_missing c = rw c.first_missing-missing.ensures at c.if-missing-rows.false
+all_below : (c : In_default-first_missing) → AllBelow c.in_ok-shape.shape.rows c.args.rows.now
+all_below c = c.in_default-first_missing.ensures
 
-past_15 : (c : Else-missing-rows) →
+none_missing : (c : In_default-first_missing) → length c.args.rows.now ≤ first_missing c.in_ok-shape.shape.rows c.args.rows.now
+none_missing c =
+    let rows = c.in_ok-shape.shape.rows in
+    let list = c.args.rows.now in
+    let past = first_is_none (λ i. leb rows (get_or list i 0)) (length list) (λ i h. lt-leb rows (get_or list i 0) (all_below c i h)) in
+    omega arith
+
+past_15 : (c : In_default-first_missing) →
     let a = c.args in looking.Passed a.file.now a.column a.rows.now (length a.out.now) 2
 past_15 c =
     looking.rows_there _ _ _ _ _ (sym c.in_ok-shape.ensures.answer) (there c) (none_missing c)
 
-all_below : (c : Else-missing-rows) (i : ℕ) → i < length c.args.rows.now → get_or c.args.rows.now i 0 < c.in_ok-shape.shape.rows
-all_below c i inside =
+-- else the first that is not there has its place
+first_found : (c : In-Some) → first_missing c.in_ok-shape.shape.rows c.args.rows.now ≡ c.in-Some.i
+first_found c =
     let rows = c.in_ok-shape.shape.rows in
-    leb-false rows (get_or c.args.rows.now i 0)
-    (none_before_first (λ k. leb rows (get_or c.args.rows.now k 0)) (length c.args.rows.now) i (omega (arith, none_missing c)))
+    let list = c.args.rows.now in
+    let found = c.in-Some.ensures in
+    first_is (λ i. leb rows (get_or list i 0)) (length list) c.in-Some.i found.inside (le-leb rows _ found.above)
+    (λ i h. lt-leb rows (get_or list i 0) (found.before i h))
 
 pub returns-in_err-shape : goal.returns-in_err-shape
 returns-in_err-shape c =
@@ -62,33 +74,36 @@ returns-then-shape-column c =
     let past = past_opening (goal.at.returns-then-shape-column c).In_ok-shape in
     refused_by _ _ _ _ (stops past (le-leb _ _ (rw same at c.if-shape-column.true)))
 
-pub returns-then-missing-rows : goal.returns-then-missing-rows
+pub returns-in-Some : goal.returns-in-Some
 unfolding own_lines
-returns-then-missing-rows c =
-    let same = rows_as_opened _ _ (opened (goal.at.returns-then-missing-rows c).In_ok-shape) in
-    let first = rw same at c.first_missing-missing.ensures in
-    let missing = lt-ltb _ _ (rw first at c.if-missing-rows.true) in
-    let past = past_12 (goal.at.returns-then-missing-rows c).Else-shape-column in
-    rw first (refused_by _ _ _ _ (stops past missing))
+returns-in-Some c =
+    let file = c.args.file.now in
+    let list = c.args.rows.now in
+    let same = rows_as_opened _ _ (opened (goal.at.returns-in-Some c).In_ok-shape) in
+    let first : first_missing (rows_in file) list ≡ c.in-Some.i = rw same at (first_found (goal.at.returns-in-Some c).In-Some) in
+    let found = c.in-Some.ensures in
+    let missing : first_missing (rows_in file) list < length list = omega (arith, found.inside) in
+    let past = past_12 (goal.at.returns-in-Some c).Else-shape-column in
+    rw (← first) (refused_by _ _ _ _ (stops past (lt-ltb _ _ missing)))
 
 pub returns-then-out-rows : goal.returns-then-out-rows
 unfolding own_lines
 returns-then-out-rows c =
-    let past = past_15 (goal.at.returns-then-out-rows c).Else-missing-rows in
+    let past = past_15 (goal.at.returns-then-out-rows c).In_default-first_missing in
     refused_by _ _ _ _ (stops past (lt-ltb _ _ c.if-out-rows.true))
 
 pub write_codes-requires : goal.write_codes-requires
 write_codes-requires c =
     record {
       opened = opened (goal.at.write_codes-requires c).In_ok-shape;
-      column_there = there (goal.at.write_codes-requires c).Else-missing-rows;
-      rows_there = all_below (goal.at.write_codes-requires c).Else-missing-rows;
+      column_there = there (goal.at.write_codes-requires c).In_default-first_missing;
+      rows_there = all_below (goal.at.write_codes-requires c).In_default-first_missing;
       room = c.if-out-rows.false;
     }
 
 pub returns : goal.returns
 returns c =
     let room = c.if-out-rows.false in
-    let found = (goal.at.returns c).Else-missing-rows in
+    let found = (goal.at.returns c).In_default-first_missing in
     let none = looking.none_answers _ _ _ _ _ (opened (goal.at.returns c).In_ok-shape) (there found) (none_missing found) room in
     accepted_by _ _ _ _ none refl c.write_codes.ensures

@@ -19,7 +19,8 @@ use Rattle.slicing.proofs.write_body.Goals.{After-write_block}
 next_block : (c : After-write_block) →
     let a = c.args in
     let slices = slices_before (width_of a.widths.now) (length a.widths.now) in
-    BodyPut a.rows (body_of a.rows a.widths.now a.codes.now) a.out.now c.write_block.new.out 0 (c.loop-first.first + c.min-n.result) 0 slices
+    let past = c.loop-first.first + c.min-n.result in
+    BodyPut a.rows (body_of a.rows a.widths.now a.codes.now) a.out.now c.write_block.new.out 0 past 0 slices
 next_block c =
     let a = c.args in put_rows a.rows (body_of a.rows a.widths.now a.codes.now) c.loop-first.invariant.1 c.write_block.ensures
 
