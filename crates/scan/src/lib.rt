@@ -82,8 +82,10 @@ pub fn scan_rows(
     while first < rows {
         let n = size.min(rows - first);
         let segment = segment::scan_segment(file, rows, first, n, tests, count, &plan);
+        // a copy: with a reference into the segment a scan takes 5 % more instructions
+        let found = segment.found;
         add_counts(&mut counts, &segment.counts);
-        matches += bits::put_bits(&segment.found, n, res, first / 8);
+        matches += bits::put_bits(&found, n, res, first / 8);
         first += n;
     }
     let total = counts.iter().sum();
