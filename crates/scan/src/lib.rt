@@ -56,13 +56,15 @@ pub fn scan_rows(
     let rows = shape.rows;
     let mut counts = [0usize; MOST_TESTS];
     let mut matches: usize = 0;
-    // a `for` over (0..rows).step_by(size) takes 5 % more instructions
+    // a `for` over (0..rows).step_by(size) takes up to 10 % more instructions
     let mut first = 0;
     while first < rows {
         let n = size.min(rows - first);
         let segment = segment::scan_segment(file, rows, first, n, tests, count, &plan);
+        // a copy: with a reference into the segment a scan takes up to 5 % more instructions
+        let found = segment.found;
         add_counts(&mut counts, &segment.counts);
-        matches += bits::put_bits(&segment.found, n, res, first / 8);
+        matches += bits::put_bits(&found, n, res, first / 8);
         first += n;
     }
     let total = counts.iter().sum();

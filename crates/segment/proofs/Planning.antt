@@ -22,7 +22,8 @@ use Rattle.segment.specs.declared.Bounds.{Bounds}
 use Rattle.segment.specs.declared.Column.{Column}
 use Rattle.segment.specs.Steps.{FitLiteral, BytesPlanned, ColumnPlanned, Planned, no_bounds, no_column}
 
-module _ (file : List ℕ) (shape : Shape) (tests : List Test) (count : ℕ) (fit : Judged file shape tests count) (t : ℕ) (h : t < count) where
+module _ (file : List ℕ) (shape : Shape) (tests : List Test) (count : ℕ) (fit : Judged file shape tests count) (t : ℕ)
+    (h : t < count) where
   pub fit_literal : FitLiteral (width_in file (test_at tests t).column) (literal_of (test_at tests t).comparison)
   fit_literal =
       record {
@@ -42,15 +43,15 @@ planned_one_more {t = t} columns column here before next =
           (rw (get_or-set_same columns t column no_column here) next);
     }
 
-pub bytes_one_more : {width literal j : ℕ} (bounds : List Bounds) (low high : ℕ) → j < length bounds →
-    BytesPlanned width literal j bounds → low ≡ byte_of width literal j → high ≡ high_of width j (byte_of width literal j) →
-    BytesPlanned width literal (j + 1) (set bounds j (record { low = low; high = high }))
-bytes_one_more {j = j} bounds low high here before lowest highest =
+pub bytes_one_more : {width literal j : ℕ} (bounds : List Bounds) (next : Bounds) → j < length bounds →
+    BytesPlanned width literal j bounds → next.low ≡ byte_of width literal j → next.high ≡ high_of width j (byte_of width literal j) →
+    BytesPlanned width literal (j + 1) (set bounds j next)
+bytes_one_more {j = j} bounds next here before low high =
     record {
       from_low =
-          below_more _ j (λ k h. rw (get_or-set_other bounds j k (record { low = low; high = high }) no_bounds (omega arith)) (before.from_low k h))
-          (rw (get_or-set_same bounds j (record { low = low; high = high }) no_bounds here) lowest);
+          below_more _ j (λ k h. rw (get_or-set_other bounds j k next no_bounds (omega arith)) (before.from_low k h))
+          (rw (get_or-set_same bounds j next no_bounds here) low);
       to_high =
-          below_more _ j (λ k h. rw (get_or-set_other bounds j k (record { low = low; high = high }) no_bounds (omega arith)) (before.to_high k h))
-          (rw (get_or-set_same bounds j (record { low = low; high = high }) no_bounds here) highest);
+          below_more _ j (λ k h. rw (get_or-set_other bounds j k next no_bounds (omega arith)) (before.to_high k h))
+          (rw (get_or-set_same bounds j next no_bounds here) high);
     }

@@ -27,7 +27,7 @@ pub record LiteralSlice (width literal slice : ℕ) : Type 0 where
   pub fit : FitLiteral width literal
   pub there : slice < slices_of width
 
--- the bounds in a slice, and the column of a test
+-- the bounds in a slice, and the column of a test; past the last all is 0
 abbrev pub no_bounds : Bounds
 no_bounds = record { low = 0; high = 0 }
 

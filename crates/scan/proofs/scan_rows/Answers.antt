@@ -95,6 +95,8 @@ returns c =
     let few = c.requires.judged.few in
     let summed : c.sum-total.result ≡ std.sum c.loop-first.counts = search rules in
     record {
-      answer = all_scanned _ _ _ _ _ same sized few (omega arith) _ _ _ _ _ far c.loop-first-test.false _ (summed ∙ sum_by_number _ _ far.sixteen) refl;
+      answer =
+          all_scanned _ _ _ _ _ same sized few (omega arith) _ _ _ _ _ far c.loop-first-test.false _
+          (summed ∙ sum_by_number _ _ far.sixteen) refl;
       left = all_put _ _ _ _ _ same sized few (omega arith) _ _ _ _ _ far c.loop-first-test.false;
     }

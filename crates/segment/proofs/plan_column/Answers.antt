@@ -15,4 +15,4 @@ pub loop-j-preserved : goal.loop-j-preserved
 loop-j-preserved c =
     let (counted, long, bytes) = c.loop-j.invariant in
     let few = few_slices_of c.args.width c.requires.narrow in
-    (counted, rw length-set long, bytes_one_more _ _ _ (omega arith) bytes c.byte_of.ensures c.high_of.ensures)
+    (counted, rw length-set long, bytes_one_more _ _ (omega arith) bytes c.byte_of.ensures c.high_of.ensures)

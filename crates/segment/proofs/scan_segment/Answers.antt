@@ -21,8 +21,8 @@ use Rattle.segment.proofs.Stepping.{has_slice, bytes_within, steps_right}
 use Rattle.segment.proofs.scan_segment.Invariants.{work_of}
 use Rattle.segment.proofs.scan_segment.Goals as goal
 use Rattle.segment.proofs.scan_segment.Goals.{Start, Then-open-gt0, Left-slices}
-use Rattle.segment.proofs.scan_segment.Goals.{then-j-column+else-rows-test+then-open-gt0, then-j-column+else-rows-test+else-open-gt0, else-j-column}
-use Rattle.segment.proofs.scan_segment.Goals.{else-slices-test, then-slices-test+else-tests-test+then-closed}
+use Rattle.segment.proofs.scan_segment.Goals.{then-j-column+else-rows-test+then-open-gt0, then-j-column+else-rows-test+else-open-gt0}
+use Rattle.segment.proofs.scan_segment.Goals.{else-j-column, else-slices-test, then-slices-test+else-tests-test+then-closed}
 
 -- the work on the segment, which is fit
 abbrev work_at : Start → Work
@@ -42,7 +42,8 @@ slices-init c = begun (fit (goal.at.slices-init c).Start) c.in_rows-inside.ensur
 pub rows-preserved : goal.rows-preserved
 rows-preserved c =
     let opened = open_in c.tests.standings (c.tests.t * longest_segment) c.slices.inside in
-    let more : sum opened (below (c.rows.r + 1)) ≡ sum opened (below c.rows.r) + opened c.rows.r = rw add-one (sum_one_more opened c.rows.r) in
+    let more : sum opened (below (c.rows.r + 1)) ≡ sum opened (below c.rows.r) + opened c.rows.r =
+    rw add-one (sum_one_more opened c.rows.r) in
     let one : c.open_row-open.result ≤ 1 =
     rw c.open_row-open.ensures (search (open_at_most_one c.tests.invariant c.tests-test.true, c.rows-test.true)) in
     (omega arith, omega (arith, more, c.open_row-open.ensures))
