@@ -10,16 +10,6 @@ returns-then-refusal-ne0 c =
     rw (refusal_listed a.file.now a.bits.now a.found c.if-refusal-ne0.true)
     (piece_written c.new-piece.ensures c.refused_line.ensures (search rules))
 
-pub test_lines-requires : goal.test_lines-requires
-test_lines-requires c =
-    let can = c.requires c.if-refusal-ne0.false in
-    search rules
-
-pub row_lines-requires : goal.row_lines-requires
-row_lines-requires c =
-    let can = c.requires c.if-refusal-ne0.false in
-    search rules
-
 pub returns : goal.returns
 returns c =
     let a = c.args in
