@@ -64,6 +64,7 @@ pub fn row_line(piece: &mut Piece<'_>, file: &[u8], shape: Shape, row: usize)
 }
 
 // A row's code in every column, a space before each.
+#[tactic(auto, using(register::proofs::Fit::few_columns_as_opened))]
 fn put_cells(piece: &mut Piece<'_>, file: &[u8], shape: Shape, row: usize)
     requires { RowAt (2 ^ 60 + 100) piece.old.at file.now shape row }
     ensures { WroteUpTo (piece.old.at + most_columns * longest_cell) (cells file.now row shape.columns)

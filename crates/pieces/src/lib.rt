@@ -18,7 +18,7 @@ pub struct Piece<'a> {
 }
 
 impl<'a> Piece<'a> {
-    // Nothing is written yet.
+    // A piece of which nothing is written yet.
     pub fn new(out: &'a mut [u8], from: usize) -> Piece<'a>
         ensures { Begun out.entry from result }
     {
@@ -57,6 +57,6 @@ impl<'a> Piece<'a> {
             return self.put(b'0' + number as u8);
         }
         self.put_decimal(number / 10);
-        self.put(b'0' + (number % 10) as u8)
+        self.put(b'0' + (number % 10) as u8);
     }
 }

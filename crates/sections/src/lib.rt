@@ -39,6 +39,7 @@ pub fn test_lines(
 }
 
 // A line for each row whose bit is set.
+#[tactic(auto, using(register::proofs::Fit::few_rows_as_opened))]
 pub fn row_lines(piece: &mut Piece<'_>, file: &[u8], shape: Shape, bits: &[u8])
     requires { RowsAt piece.old.at file.now shape }
     ensures { Wrote (row_lines file.now (marked_below shape.rows bits.now)) piece.old piece.new }

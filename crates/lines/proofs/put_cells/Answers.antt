@@ -9,7 +9,6 @@ use Rattle.register.specs.Cells.{code_at}
 use Rattle.decimals.specs.Decimals.{decimal, space}
 use Rattle.lines.specs.Lines.{cells}
 use Rattle.pieces.proofs.Writing.{wrote_nothing, written_then}
-use Rattle.register.proofs.Fit.{few_columns_as_opened}
 use Rattle.lines.proofs.put_cells.Goals as goal
 
 -- one more cell of a row
@@ -22,10 +21,6 @@ pub loop-column-init : goal.loop-column-init
 unfolding cells flatten
 loop-column-init c = (omega arith, wrote_nothing _)
 
-pub put_cell-requires : goal.put_cell-requires
-put_cell-requires c =
-    omega (arith, few_columns_as_opened _ c.args.shape c.requires.opened)
-
 pub loop-column-preserved : goal.loop-column-preserved
 loop-column-preserved c =
     let turn = c.loop-column in
@@ -34,12 +29,3 @@ loop-column-preserved c =
       omega (arith, c.put_cell.ensures.within),
       rw (cell_more a.file.now a.row turn.column) (written_then turn.invariant.1 written),
     )
-
-pub returns : goal.returns
-returns c =
-    let turn = c.loop-column in
-    let all : turn.column ≡ c.args.shape.columns = omega arith in
-    record {
-      wrote = rw all at turn.invariant.1;
-      within = omega (arith, few_columns_as_opened _ c.args.shape c.requires.opened);
-    }

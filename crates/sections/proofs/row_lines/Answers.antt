@@ -1,25 +1,15 @@
 -- `sections::row_lines` meets its contract: the lines of the rows passed are written. Assumes nothing.
 use native.Mathlib.Omega.{arith}
-use mathlib.Core.Path.{◌≡◌}
 use mathlib.Core.List.{flatten}
 use Rattle.bits.specs.Marked.{marked_below}
 use Rattle.sections.specs.Sections.{row_lines}
 use Rattle.pieces.proofs.Writing.{wrote_nothing, written_then}
 use Rattle.sections.proofs.OneMore.{row_more}
-use Rattle.register.proofs.Fit.{few_rows_as_opened}
 use Rattle.sections.proofs.row_lines.Goals as goal
 
 pub loop-row-init : goal.loop-row-init
 unfolding marked_below row_lines flatten
 loop-row-init c = (omega arith, wrote_nothing _)
-
-pub put_row-requires : goal.put_row-requires
-put_row-requires c =
-    record {
-      early = omega (arith, few_rows_as_opened _ c.args.shape c.requires.opened);
-      opened = c.requires.opened;
-      there = omega arith;
-    }
 
 pub loop-row-preserved : goal.loop-row-preserved
 loop-row-preserved c =
@@ -29,9 +19,3 @@ loop-row-preserved c =
       omega arith,
       rw (row_more a.file.now a.bits.now turn.row) (written_then turn.invariant.1 put.wrote),
     )
-
-pub returns : goal.returns
-returns c =
-    let turn = c.loop-row in
-    let all : turn.row ≡ c.args.shape.rows = omega arith in
-    rw all at turn.invariant.1

@@ -1,7 +1,7 @@
 -- `sections::test_lines` meets its contract: the lines of the tests passed are written. Assumes nothing.
 use Prim.Native.Nat.{ℕ, ◌*◌, ◌≤◌}
 use native.Mathlib.Omega.{arith}
-use mathlib.Core.Path.{◌≡◌, ap, ap₂, ◌∙◌}
+use mathlib.Core.Path.{ap, ap₂, ◌∙◌}
 use mathlib.Core.List.{flatten}
 use Rattle.codes.specs.Width.{slices_of}
 use Rattle.limits.specs.Limits.{most_rows, most_slices}
@@ -14,10 +14,6 @@ use Rattle.sections.proofs.test_lines.Goals as goal
 pub loop-t-init : goal.loop-t-init
 unfolding test_lines flatten
 loop-t-init c = (omega arith, wrote_nothing _)
-
-pub width_at-width-requires : goal.width_at-width-requires
-width_at-width-requires c =
-    record { opened = c.requires.opened; there = c.requires.columns_there _ c.loop-t-test.true }
 
 pub overflow_mul-most : goal.overflow_mul-most
 overflow_mul-most c =
@@ -35,9 +31,3 @@ loop-t-preserved c =
       omega arith,
       rw (test_more _ _ _ turn.t) (written_then turn.invariant.1 (rw most at c.test_line.ensures.wrote)),
     )
-
-pub returns : goal.returns
-returns c =
-    let turn = c.loop-t in
-    let all : turn.t ≡ c.args.count = omega arith in
-    record { wrote = rw all at turn.invariant.1; within = omega arith }
