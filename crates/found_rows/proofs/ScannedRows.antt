@@ -12,7 +12,9 @@ use lib.Seq.{take_at}
 use Rattle.basis.specs.Lists.{those, below}
 use Rattle.basis.proofs.Buffers.{laid_front}
 use Rattle.basis.proofs.Those.{length_those}
-use Rattle.std.specs.Prelude.{Ok}
+use Rattle.std.specs.Prelude.{Result, Ok}
+use Rattle.refusals.specs.declared.Refusal.{Refusal}
+use Rattle.scan.specs.declared.Scanned.{Scanned}
 use Rattle.basis.specs.Refusals.{answer_of}
 use Rattle.directory.specs.File.{rows_in}
 use Rattle.register.proofs.Fit.{opened_is_fit}
@@ -24,7 +26,7 @@ use Rattle.bits.specs.Bits.{bytes_for, bits_of}
 use Rattle.bits.specs.Marked.{marked_below, unfit_bits}
 use Rattle.bits.proofs.Packed.{length_bits}
 use Rattle.bits.proofs.FoundBits.{found_are_marked, fit_bits}
-use Rattle.scan.specs.Answers.{found_bits, scanned_of, accepted, left_in as scanLeft}
+use Rattle.scan.specs.Answers.{found_bits, scanned_of, numbers_in, accepted, left_in as scanLeft}
 use Rattle.scan.proofs.LeftBits.{left_is}
 use Rattle.scan.proofs.Accepting.{Accepted, reply, opens}
 use Rattle.rows.specs.RowList.{listed_of}
@@ -48,15 +50,15 @@ module _ (file : List ℕ) (size : ℕ) (query : Query) (out : List ℕ) (yes : 
   pub lists_the_found : marked_below (rows_in file) bits ≡ those is_found (below (rows_in file))
   lists_the_found = ap (marked_below (rows_in file)) bits_left ∙ found_are_marked is_found (rows_in file)
 
-  pub lists_as_many : length (marked_below (rows_in file) bits) ≡ (scanned_of file size query (length out)).matches
+  pub lists_as_many : length (marked_below (rows_in file) bits) ≡ (numbers_in (scanned_of file size query (length out))).matches
   unfolding accepted matches
   lists_as_many =
       ap length lists_the_found
       ∙ length_those is_found (below (rows_in file))
-      ∙ sym (ap (λ scanned. scanned.matches) (reply file size query (length out) yes))
+      ∙ sym (ap (λ (told : Result Scanned Refusal). (numbers_in told).matches) (reply file size query (length out) yes))
 
-  pub list_answers : (room : ℕ) → (scanned_of file size query (length out)).matches ≤ room →
-      listed_of (rows_in file) bits room ≡ Ok (scanned_of file size query (length out)).matches
+  pub list_answers : (room : ℕ) → (numbers_in (scanned_of file size query (length out))).matches ≤ room →
+      listed_of (rows_in file) bits room ≡ Ok (numbers_in (scanned_of file size query (length out))).matches
   unfolding answer_of
   list_answers room fits =
       let few = (opened_is_fit file _ (opens file size query (length out) yes)).0.few_rows in

@@ -17,7 +17,7 @@ use Rattle.answers.proofs.Replies.{accepted_by}
 use Rattle.lookup.specs.LookingUp.{first_missing, codes_of, looked_up_of, left_in}
 use Rattle.lookup.specs.Steps.{AllBelow}
 use Rattle.lookup.proofs.LookingUp.{none_answers}
-use Rattle.roundtrip.proofs.Ok.{map_same}
+use Rattle.roundtrip.proofs.Elements.{map_same}
 use Rattle.roundtrip.proofs.WrittenOpens.{written_opens}
 use Rattle.roundtrip.proofs.WrittenIsFound.{written_is_found}
 
@@ -44,4 +44,4 @@ module _ (rows : ℕ) (widths codes : List ℕ) (fit_widths : FitWidths widths) 
       let present = none_missing rows list rows_there in
       let accepted = none_answers (file_of rows widths codes) column list (length into) _ opens column_there present room in
       let answered = accepted_by _ (length list) _ into accepted refl (ap (laid into 0) (sym same_codes)) in
-      (sym answered.0, sym answered.1.1)
+      (sym answered.answer, sym answered.left)

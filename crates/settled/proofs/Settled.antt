@@ -23,6 +23,7 @@ use Rattle.asking.specs.Sizes.{unfit_size}
 use Rattle.asking.specs.Refusals.{lines_for_all, query_lines}
 use Rattle.scan.specs.Answers as scans
 use Rattle.rows.specs.RowList as lists
+use Rattle.basis.specs.Refusals.{answer_of}
 use Rattle.replies.specs.Replies.{scan_reply}
 use Rattle.settled.specs.Questions.{answer}
 use Rattle.settled.specs.Registers.{two_rows, ten_rows, ten_codes, one_byte, no_rows}
@@ -32,7 +33,7 @@ pub settled : map (λ (example : Example). answer example.asked) table ≡ map (
 unfolding table two_rows ten_rows ten_codes one_byte no_rows joined big pad_of slices_of
     opens.shown_for opens.open_lines trailer_in entry_in number_at little mark first_place
     unfit_column unfit_entry unfit_width width_in offset_in slices_before
-    shown_for left_by writes.write_lines file_length file_of body_of column_of slice_of directory_of entry_with trailer_of trailer_with
+    answer_of shown_for left_by writes.write_lines file_length file_of body_of column_of slice_of directory_of entry_with trailer_of trailer_with
     flatten to_little byte_of bytes_of stored_of to_big too_large scan_reply scans.scanned_of scans.accepted scans.left_in scans.found_bits
     bits_of bits_at bytes_for query_lines lines_for_all unfit_size byte_at standing ruled_out keeps_open counts count_in count total
     found matches segment_count segment segments last_slice cleared_byte lists.list_lines unfit_bits marked_past
