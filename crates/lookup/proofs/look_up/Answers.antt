@@ -18,7 +18,7 @@ use Rattle.lookup.specs.LookingUp.{first_missing, own_lines}
 use Rattle.lookup.specs.Steps.{AllBelow}
 use Rattle.lookup.proofs.LookingUp as looking
 use Rattle.lookup.proofs.look_up.Goals as goal
-use Rattle.lookup.proofs.look_up.Goals.{Else-shape-column, In_ok-shape, In-Some, In_default-first_missing}
+use Rattle.lookup.proofs.look_up.Goals.{Else-shape-column, In_ok-shape, In-Some, In_default}
 
 -- past opening, the file is a register
 opened : (c : In_ok-shape) → opened_of c.args.file.now ≡ Ok c.in_ok-shape.shape
@@ -35,20 +35,20 @@ past_12 c =
     looking.column_there _ _ _ _ _ (sym c.in_ok-shape.ensures.answer) c.if-shape-column.false
 
 -- past 15, every listed row is there
-there : (c : In_default-first_missing) → c.args.column < c.in_ok-shape.shape.columns
+there : (c : In_default) → c.args.column < c.in_ok-shape.shape.columns
 there c = c.if-shape-column.false
 
-all_below : (c : In_default-first_missing) → AllBelow c.in_ok-shape.shape.rows c.args.rows.now
-all_below c = c.in_default-first_missing.ensures
+all_below : (c : In_default) → AllBelow c.in_ok-shape.shape.rows c.args.rows.now
+all_below c = c.in_default.ensures
 
-none_missing : (c : In_default-first_missing) → length c.args.rows.now ≤ first_missing c.in_ok-shape.shape.rows c.args.rows.now
+none_missing : (c : In_default) → length c.args.rows.now ≤ first_missing c.in_ok-shape.shape.rows c.args.rows.now
 none_missing c =
     let rows = c.in_ok-shape.shape.rows in
     let list = c.args.rows.now in
     let past = first_is_none (λ i. leb rows (get_or list i 0)) (length list) (λ i h. lt-leb rows (get_or list i 0) (all_below c i h)) in
     omega arith
 
-past_15 : (c : In_default-first_missing) →
+past_15 : (c : In_default) →
     let a = c.args in looking.Passed a.file.now a.column a.rows.now (length a.out.now) 2
 past_15 c =
     looking.rows_there _ _ _ _ _ (sym c.in_ok-shape.ensures.answer) (there c) (none_missing c)
@@ -89,21 +89,21 @@ returns-in-Some c =
 pub returns-then-out-rows : goal.returns-then-out-rows
 unfolding own_lines
 returns-then-out-rows c =
-    let past = past_15 (goal.at.returns-then-out-rows c).In_default-first_missing in
+    let past = past_15 (goal.at.returns-then-out-rows c).In_default in
     refused_by _ _ _ _ (stops past (lt-ltb _ _ c.if-out-rows.true))
 
 pub write_codes-requires : goal.write_codes-requires
 write_codes-requires c =
     record {
       opened = opened (goal.at.write_codes-requires c).In_ok-shape;
-      column_there = there (goal.at.write_codes-requires c).In_default-first_missing;
-      rows_there = all_below (goal.at.write_codes-requires c).In_default-first_missing;
+      column_there = there (goal.at.write_codes-requires c).In_default;
+      rows_there = all_below (goal.at.write_codes-requires c).In_default;
       room = c.if-out-rows.false;
     }
 
 pub returns : goal.returns
 returns c =
     let room = c.if-out-rows.false in
-    let found = (goal.at.returns c).In_default-first_missing in
+    let found = (goal.at.returns c).In_default in
     let none = looking.none_answers _ _ _ _ _ (opened (goal.at.returns c).In_ok-shape) (there found) (none_missing found) room in
     accepted_by _ _ _ _ none refl c.write_codes.ensures
