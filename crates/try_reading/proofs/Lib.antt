@@ -1,2 +1,0 @@
--- Laws on how a request is read.
-pub mod Requests
