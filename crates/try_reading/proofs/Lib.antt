@@ -1,0 +1,2 @@
+-- Laws on how a request is read.
+pub mod Requests
