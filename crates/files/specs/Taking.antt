@@ -1,26 +1,24 @@
--- What reading an input whole answers, and what it leaves of the lent buffer. Which bytes the operating system puts there
--- is not said: no contract of std's says it. Assumes nothing.
-use Rattle.std.specs.Prelude.{ℕ, ◌≤◌, min, ◌≡◌, List, length, Result, Ok, Err}
-use Rattle.files.specs.declared.Taken.{Taken}
-use Rattle.files.specs.declared.Taken.TheVariants.{Bytes, Unreadable}
+-- What reading an input whole answers, how many bytes were put at the start of the lent buffer or none where a read failed, and what it
+-- leaves of the buffer. Which bytes the operating system puts there is not said: no contract of std's says it. Assumes nothing.
+use Rattle.std.specs.Prelude.{ℕ, ◌≤◌, min, ◌≡◌, List, length, Option, Some, None, Result, Ok, Err}
 
 -- the number of an answer: 18 where the input is unreadable; its place and need are 0
-abbrev pub number_of : Taken → ℕ
-number_of (Bytes n) = 0
-number_of Unreadable = 18
+abbrev pub number_of : Option ℕ → ℕ
+number_of (Some n) = 0
+number_of None = 18
 
 -- how many bytes an answer counts: none where the input is unreadable
-abbrev pub count_of : Taken → ℕ
-count_of (Bytes n) = n
-count_of Unreadable = 0
+abbrev pub count_of : Option ℕ → ℕ
+count_of (Some n) = n
+count_of None = 0
 
 -- what one read says, of so many bytes at most: how many came, or that it failed
-abbrev pub taken_by : {E : Type 0} → Result ℕ E → ℕ → Taken
-taken_by (Ok n) most = Bytes (min n most)
-taken_by (Err e) most = Unreadable
+abbrev pub taken_by : {E : Type 0} → Result ℕ E → ℕ → Option ℕ
+taken_by (Ok n) most = Some (min n most)
+taken_by (Err e) most = None
 
 -- the buffer is as long as it was, and the bytes that the answer counts lie within it
-pub record TakenInto (before after : List ℕ) (taken : Taken) : Type 0 where
+pub record TakenInto (before after : List ℕ) (taken : Option ℕ) : Type 0 where
   pub same_length : length after ≡ length before
   pub within : count_of taken ≤ length after
 

@@ -2,62 +2,33 @@
 // answer counts. Which bytes stand there is the operating system's word, and is not promised.
 #![tactic(auto)]
 
-ghost use Rattle.std.specs.Prelude.{◌≡◌, ◌+◌, ◌≤◌, eqb, length};
-ghost use Rattle.files.specs.Taking.{number_of, count_of, taken_by, TakenInto, NotOpened};
+ghost use Rattle.std.specs.Prelude.{◌≡◌, ◌+◌, ◌≤◌, None, length};
+ghost use Rattle.files.specs.Taking.{count_of, taken_by, TakenInto, NotOpened};
 
 use std::io::{ErrorKind, Read};
 use std::rt::Files;
 use std::{fs, io, str};
 
-// How many bytes were put at the start of the buffer, or that a read failed.
-#[derive(Clone, Copy)]
-pub enum Taken {
-    Bytes(usize),
-    Unreadable,
-}
-
-// Whether the input was read: its number is not that of a refusal.
-pub fn is_read(taken: Taken) -> bool
-    ensures { result ≡ eqb (number_of taken) 0 }
-{
-    match taken {
-        Taken::Bytes(_) => true,
-        Taken::Unreadable => false,
-    }
-}
-
-// How many bytes were read.
-pub fn bytes_of(taken: Taken) -> usize
-    ensures { result ≡ count_of taken }
-{
-    match taken {
-        Taken::Bytes(n) => n,
-        Taken::Unreadable => 0,
-    }
-}
-
-// Reads until the input ends or the buffer is full. A full buffer may not hold the whole input, so
-// a caller lends one byte more than it accepts. It ends since each turn leaves less to fill.
-pub fn take_all<R: Read>(reader: &mut R, buffer: &mut [u8]) -> Taken
+// Reads until the input ends or the buffer is full, and answers how many bytes it put at the start of the buffer, or none where a
+// read failed. A full buffer may not hold the whole input, so a caller lends one byte more than it accepts. It ends since each turn
+// leaves less to fill.
+pub fn take_all<R: Read>(reader: &mut R, buffer: &mut [u8]) -> Option<usize>
     ensures { TakenInto buffer.old buffer.new result }
 {
     let mut done: usize = 0;
     while done < buffer.len() {
-        let taken = take_more(reader, buffer, done);
-        let Taken::Bytes(more) = taken else {
-            return taken;
-        };
+        let more = take_more(reader, buffer, done)?;
         if more == 0 {
-            return Taken::Bytes(done);
+            return Some(done);
         }
-        done = done + more;
+        done += more;
     }
-    Taken::Bytes(done)
+    Some(done)
 }
 
 // Reads the file of this name as take_all does. One that cannot be opened is unreadable, and so is
 // a folder, which opens and whose first read fails.
-pub fn read_file<R: Files>(files: &R, path: &[u8], buffer: &mut [u8]) -> Taken
+pub fn read_file<R: Files>(files: &R, path: &[u8], buffer: &mut [u8]) -> Option<usize>
     ensures { TakenInto buffer.old buffer.new result }
 {
     let opened = open_named(files, path);
@@ -74,19 +45,17 @@ fn open_named<R: Files>(files: &R, path: &[u8]) -> io::Result<R::File> {
 
 // Reads what opening answered, a file or an error, and closes it. That closing what was only read failed says
 // nothing of what was read.
-fn take_opened<F: Read + Drop>(opened: io::Result<F>, buffer: &mut [u8]) -> Taken
+fn take_opened<F: Read + Drop>(opened: io::Result<F>, buffer: &mut [u8]) -> Option<usize>
     ensures taken { TakenInto buffer.old buffer.new result }
-    ensures unopened { NotOpened opened → result ≡ Taken.Unreadable }
+    ensures unopened { NotOpened opened → result ≡ None }
 {
-    let Ok(mut file) = opened else {
-        return Taken::Unreadable;
-    };
+    let mut file = opened.ok()?;
     take_all(&mut file, buffer)
 }
 
 // One read into the buffer from a place on. No bytes: the input has ended. A read that a signal
 // interrupts counts as one that failed.
-fn take_more<R: Read>(reader: &mut R, buffer: &mut [u8], done: usize) -> Taken
+fn take_more<R: Read>(reader: &mut R, buffer: &mut [u8], done: usize) -> Option<usize>
     requires { done ≤ length buffer.old }
     ensures { done + count_of result ≤ length buffer.old }
 {
@@ -96,12 +65,9 @@ fn take_more<R: Read>(reader: &mut R, buffer: &mut [u8], done: usize) -> Taken
 }
 
 // What a read into a part of the buffer says by its answer.
-fn taken_by(got: io::Result<usize>, part: &[u8]) -> Taken
+fn taken_by(got: io::Result<usize>, part: &[u8]) -> Option<usize>
     ensures answer { result ≡ taken_by got (length part.now) }
     ensures within { count_of result ≤ length part.now }
 {
-    match got {
-        Ok(n) => Taken::Bytes(n.min(part.len())),
-        Err(_) => Taken::Unreadable,
-    }
+    Some(got.ok()?.min(part.len()))
 }

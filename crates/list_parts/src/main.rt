@@ -3,8 +3,8 @@
 #![tactic(auto)]
 
 use limits::{MOST_FILE, MOST_TEXT};
+use printing::CutShort;
 use std::env::FillError;
-use std::io;
 use std::rt::Env;
 
 // Bytes that are printed at a time.
@@ -22,16 +22,15 @@ fn main(rt: HostRuntime) {
     let mut out = [0u8; PIECE];
     let mut input = rt.stdin();
     let mut output = rt.stdout();
-    let printed = printing::list_parts(
+    if let Err(cut) = printing::list_parts(
         &rt,
         &mut input,
         &mut output,
         &mut file,
         &mut text,
         &mut out,
-    );
-    if let Some(error) = printed.failure {
-        say_cut_short(&rt, printed.written, printed.all, &error);
+    ) {
+        say_cut_short(&rt, cut);
         return;
     }
     if let Err(error) = putting::saved(&rt) {
@@ -50,8 +49,9 @@ fn has_argument<R: Env>(rt: &R) -> bool {
 }
 
 // Says that the listing is not whole, why, and how much of it was written.
-fn say_cut_short<R: Eprint>(rt: &R, written: usize, all: usize, error: &io::Error) {
-    putting::fail(rt, "list_parts: the listing is not whole", error);
+fn say_cut_short<R: Eprint>(rt: &R, cut: CutShort) {
+    let CutShort { written, all, error } = cut;
+    putting::fail(rt, "list_parts: the listing is not whole", &error);
     let _ = eprintln!(rt; "list_parts: {written} of {all} bytes were written");
 }
 

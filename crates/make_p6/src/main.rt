@@ -14,9 +14,8 @@ fn main(rt: HostRuntime) {
     let Answer::Elements(_) = writer::write(10, &widths, &codes, &mut out) else {
         return;
     };
-    let put = putting::put_all(&rt, &mut rt.stdout(), &out);
-    if let Some(error) = put.failure {
-        putting::fail(&rt, "make_p6: the file is not whole", &error);
+    if let Err(stopped) = putting::put_all(&rt, &mut rt.stdout(), &out) {
+        putting::fail(&rt, "make_p6: the file is not whole", &stopped.error);
         return;
     }
     if let Err(error) = putting::saved(&rt) {

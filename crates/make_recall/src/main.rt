@@ -33,9 +33,8 @@ fn print_register<R: Files + Clock + Eprint, W: Write>(
     let Answer::Elements(_) = writer::write(ROWS, widths, codes, out) else {
         return;
     };
-    let put = putting::put_all(rt, output, out);
-    if let Some(error) = put.failure {
-        putting::fail(rt, "make_recall: the file is not whole", &error);
+    if let Err(stopped) = putting::put_all(rt, output, out) {
+        putting::fail(rt, "make_recall: the file is not whole", &stopped.error);
         return;
     }
     if let Err(error) = putting::saved(rt) {
@@ -51,8 +50,8 @@ fn print_register<R: Files + Clock + Eprint, W: Write>(
 fn fill(codes: &mut [u64])
     ensures { codes.new ≡ laid codes.old 0 (map code_at (below (length codes.old))) }
 {
-    for at in 0..codes.len() {
-        codes[at] = code_of(at as u64 / 4, at % 4);
+    for (at, code) in codes.iter_mut().enumerate() {
+        *code = code_of(at as u64 / 4, at % 4);
     }
 }
 

@@ -2,35 +2,32 @@
 // the output piece by piece.
 #![tactic(auto)]
 
-ghost use Rattle.std.specs.Prelude.{◌≡◌, ◌-◌, ◌<◌, length, take};
+ghost use Rattle.std.specs.Prelude.{◌≡◌, ◌<◌, is_some, length, take};
 ghost use Rattle.files.specs.Taking.{count_of};
 ghost use Rattle.listing.specs.Found.{Listable, found_lines};
 ghost use Rattle.listing.specs.Inputs.{unread_inputs};
-ghost use Rattle.printing.specs.Printing.{is_read, refused_file, TextTaken, PieceOf, PrintedOf};
+ghost use Rattle.printing.specs.Printing.{refused_file, TextTaken, PieceOf, PrintedOf};
 ghost use Rattle.printing.specs.Printing.{InputsTaken, FoundPrintable, FoundPrinted, PartsListed};
 
-use files::Taken;
 use finding::Found;
 use limits::{MOST_BITS, MOST_FILE};
 use std::io;
 use std::io::{Read, Write};
 use std::rt::{Clock, Files};
 
-// How many bytes of the listing were written, of how many there are, and why not all.
+// That the listing was written in part: how many bytes, of how many, and why not all.
 #[derive(Clone, Copy)]
-pub struct Printed {
+pub struct CutShort {
     pub written: usize,
     pub all: usize,
-    pub failure: Option<io::Error>,
+    pub error: io::Error,
 }
 
-// Of a piece of the listing: how many bytes were taken, of how many; how many the whole listing has; and why not all were taken.
+// Of a piece of the listing that was taken whole: how many bytes it has, and how many the whole listing has.
 #[derive(Clone, Copy)]
 struct Piece {
     put: usize,
-    wanted: usize,
     all: usize,
-    failure: Option<io::Error>,
 }
 
 // Reads the file and the text into what is lent for them, and prints by way of `out`.
@@ -41,7 +38,7 @@ pub fn list_parts<R: Files + Clock, I: Read, W: Write>(
     file: &mut [u8],
     text: &mut [u8],
     out: &mut [u8],
-) -> Printed
+) -> Result<usize, CutShort>
     requires { 0 < length out.old }
     ensures { PartsListed file.old file.new text.old text.new result }
 {
@@ -54,44 +51,42 @@ pub fn list_parts<R: Files + Clock, I: Read, W: Write>(
 fn print_taken<R: Clock, W: Write>(
     rt: &R,
     output: &mut W,
-    taken: Taken,
+    taken: Option<usize>,
     file: &[u8],
-    given: Taken,
+    given: Option<usize>,
     text: &[u8],
     out: &mut [u8],
-) -> Printed
+) -> Result<usize, CutShort>
     requires { InputsTaken out.old taken file.now given text.now }
-    ensures { PrintedOf (unread_inputs (is_read taken) (count_of taken) (is_read given) (count_of given))
+    ensures { PrintedOf (unread_inputs (is_some taken) (count_of taken) (is_some given) (count_of given))
         (take (count_of taken) file.now) (take (count_of given) text.now) result }
 {
-    let file_bytes = files::bytes_of(taken);
-    let text_bytes = files::bytes_of(given);
     print_listing(
         rt,
         output,
-        files::is_read(taken),
-        &file[..file_bytes],
-        files::is_read(given),
-        &text[..text_bytes],
+        taken.is_some(),
+        &file[..taken.unwrap_or(0)],
+        given.is_some(),
+        &text[..given.unwrap_or(0)],
         out,
     )
 }
 
 // The text on the input; where the file is refused, nothing is waited for.
-fn take_text<I: Read>(input: &mut I, taken: Taken, text: &mut [u8]) -> Taken
+fn take_text<I: Read>(input: &mut I, taken: Option<usize>, text: &mut [u8]) -> Option<usize>
     ensures { TextTaken taken text.old text.new result }
 {
     if is_refused(taken) {
-        return Taken::Unreadable;
+        return None;
     }
     files::take_all(input, text)
 }
 
 // Whether the file is refused by 18, which needs no text.
-fn is_refused(taken: Taken) -> bool
+fn is_refused(taken: Option<usize>) -> bool
     ensures { result ≡ refused_file taken }
 {
-    listing::unread(files::is_read(taken), files::bytes_of(taken), MOST_FILE)
+    listing::unread(taken.is_some(), taken.unwrap_or(0), MOST_FILE)
 }
 
 // Finds what the listing of the two inputs shows, once, and prints it.
@@ -103,7 +98,7 @@ fn print_listing<R: Clock, W: Write>(
     given: bool,
     text: &[u8],
     out: &mut [u8],
-) -> Printed
+) -> Result<usize, CutShort>
     requires { 0 < length out.old }
     ensures { PrintedOf (unread_inputs taken (length file.now) given (length text.now))
         file.now text.now result }
@@ -122,27 +117,16 @@ fn print_found<R: Clock, W: Write>(
     found: Found,
     bits: &[u8; MOST_BITS],
     out: &mut [u8],
-) -> Printed
+) -> Result<usize, CutShort>
     requires { FoundPrintable out.old file.now found }
     ensures { FoundPrinted file.now bits.now found result }
 {
     let mut written: usize = 0;
     loop {
-        let piece = print_piece(rt, output, file, found, bits, written, out);
-        written = written + piece.put;
-        if piece.put < piece.wanted {
-            return Printed {
-                written,
-                all: piece.all,
-                failure: piece.failure,
-            };
-        }
+        let piece = print_piece(rt, output, file, found, bits, written, out)?;
+        written += piece.put;
         if piece.all <= written {
-            return Printed {
-                written,
-                all: piece.all,
-                failure: piece.failure,
-            };
+            return Ok(written);
         }
     }
 }
@@ -156,25 +140,18 @@ fn print_piece<R: Clock, W: Write>(
     bits: &[u8; MOST_BITS],
     from: usize,
     out: &mut [u8],
-) -> Piece
+) -> Result<Piece, CutShort>
     requires { Listable file.now found }
     ensures { PieceOf (found_lines file.now bits.now found) from out.old out.new result }
 {
     let all = listing::write_found(file, found, bits, from, out);
-    let wanted = numbers::least(out.len(), left(all, from));
-    let done = putting::put_all(rt, output, &out[..wanted]);
-    let put = done.taken;
-    Piece {
-        put,
-        wanted,
-        all,
-        failure: done.failure,
+    let wanted = out.len().min(all.saturating_sub(from));
+    match putting::put_all(rt, output, &out[..wanted]) {
+        Ok(put) => Ok(Piece { put, all }),
+        Err(stopped) => Err(CutShort {
+            written: from + stopped.taken,
+            all,
+            error: stopped.error,
+        }),
     }
-}
-
-// How many bytes there are from a place on: none where it lies at the end or behind.
-fn left(all: usize, from: usize) -> usize
-    ensures { result ≡ all - from }
-{
-    if from < all { all - from } else { 0 }
 }

@@ -2,7 +2,7 @@
 // fails not a byte more is written. Which bytes arrive is the operating system's word, and is not promised.
 #![tactic(auto)]
 
-ghost use Rattle.std.specs.Prelude.{◌≡◌, ◌+◌, ◌≤◌, ◌↔◌, length, IsNone};
+ghost use Rattle.std.specs.Prelude.{◌≡◌, ◌+◌, ◌<◌, ◌≤◌, length, MatchResult};
 ghost use Rattle.putting.specs.Putting.{put_count, put_for};
 
 use std::fs::OpenFile;
@@ -28,54 +28,35 @@ pub enum Put {
     Failed(io::Error),
 }
 
-// How many bytes were taken, and why not all of them.
+// How many bytes were taken, which are not all of them, and why.
 #[derive(Clone, Copy)]
-pub struct AllPut {
+pub struct Stopped {
     pub taken: usize,
-    pub failure: Option<io::Error>,
+    pub error: io::Error,
 }
 
 // Writes all the bytes, and answers how many were taken: fewer than all where a write failed or took none, and then why.
 // It ends since each turn leaves fewer bytes or fewer waits.
-pub fn put_all<W: Write>(clock: &impl Clock, writer: &mut W, bytes: &[u8]) -> AllPut
-    ensures within { result.taken ≤ length bytes.now }
-    ensures why { IsNone result.failure ↔ (result.taken ≡ length bytes.now) }
+pub fn put_all<W: Write>(clock: &impl Clock, writer: &mut W, bytes: &[u8]) -> Result<usize, Stopped>
+    ensures { MatchResult result (λ taken. taken ≡ length bytes.now) (λ stopped. stopped.taken < length bytes.now) }
 {
-    let mut done: usize = 0;
+    let mut taken: usize = 0;
     let mut waits = MOST_WAITS;
-    while done < bytes.len() {
-        let put = put_more(writer, bytes, done);
-        match put {
-            Put::Bytes(more) => {
-                if more == 0 {
-                    return stopped(done, io::Error::from(ErrorKind::WriteZero));
-                }
-                done = done + more;
+    while taken < bytes.len() {
+        match put_more(writer, bytes, taken) {
+            Put::Bytes(0) => {
+                let error = io::Error::from(ErrorKind::WriteZero);
+                return Err(Stopped { taken, error });
             }
-            Put::Later(error) => {
-                if waits == 0 {
-                    return stopped(done, error);
-                }
-                waits = waits - 1;
+            Put::Bytes(more) => taken += more,
+            Put::Later(_) if 0 < waits => {
+                waits -= 1;
                 pause(clock);
             }
-            Put::Failed(error) => return stopped(done, error),
+            Put::Later(error) | Put::Failed(error) => return Err(Stopped { taken, error }),
         }
     }
-    AllPut {
-        taken: done,
-        failure: None,
-    }
-}
-
-// That so many bytes were taken and no more, and why.
-fn stopped(taken: usize, error: io::Error) -> AllPut
-    ensures { result ≡ record { taken = taken; failure = Some error } }
-{
-    AllPut {
-        taken,
-        failure: Some(error),
-    }
+    Ok(taken)
 }
 
 // One write of the bytes from a place on.
@@ -83,8 +64,7 @@ fn put_more<W: Write>(writer: &mut W, bytes: &[u8], done: usize) -> Put
     requires { done ≤ length bytes.now }
     ensures { done + put_count result ≤ length bytes.now }
 {
-    let rest = &bytes[done..];
-    match writer.write(rest) {
+    match writer.write(&bytes[done..]) {
         Ok(more) => Put::Bytes(more),
         Err(error) => put_for(error),
     }
@@ -96,14 +76,10 @@ fn put_for(error: io::Error) -> Put
     ensures answer { result ≡ put_for error }
     ensures nothing { put_count result ≡ 0 }
 {
-    let kind = error.kind();
-    if kind == ErrorKind::WouldBlock {
-        return Put::Later(error);
+    match error.kind() {
+        ErrorKind::WouldBlock | ErrorKind::Interrupted => Put::Later(error),
+        _ => Put::Failed(error),
     }
-    if kind == ErrorKind::Interrupted {
-        return Put::Later(error);
-    }
-    Put::Failed(error)
 }
 
 // Waits two milliseconds.

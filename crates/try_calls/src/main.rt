@@ -50,7 +50,7 @@ fn read_full<I: Read>(input: &mut I, buffer: &mut [u8]) -> usize
         if more == 0 {
             return done;
         }
-        done = done + more;
+        done += more;
     }
     done
 }
@@ -65,52 +65,40 @@ fn read_more<I: Read>(input: &mut I, buffer: &mut [u8], done: usize) -> usize
 
 // Answers line after line, and says at the end how many there were. It ends since each line has a byte at least.
 fn answer_all<R: Print>(rt: &R, requests: &[u8], numbers: &mut [u64]) {
-    let mut at: usize = 0;
+    let mut rest = requests;
     let mut lines: usize = 0;
-    while at < requests.len() {
-        let next = at + behind(&requests[at..], b'\n');
-        answer(rt, &requests[at..next], numbers);
-        at = next;
-        lines = lines + 1;
+    while !rest.is_empty() {
+        let end = behind(rest, b'\n');
+        let (line, next) = rest.split_at(end);
+        answer(rt, line, numbers);
+        rest = next;
+        lines += 1;
     }
-    say_total(rt, lines);
-}
-
-fn say_total<R: Print>(rt: &R, lines: usize) {
     let _ = println!(rt; "requests {lines}");
 }
 
-// Prints a line up to its colon, and then the answer.
+// Prints a line up to its colon, and then the answer, or that it is no request: its numbers are not those of a call, or too many or
+// too large.
 fn answer<R: Print>(rt: &R, line: &[u8], numbers: &mut [u64]) {
     let named = behind(line, b':');
     say(rt, &line[..named]);
-    let read = numbers_of(&line[named..], numbers);
-    let count = read.count;
-    if read.all {
-        make_call(rt, line, &numbers[..count]);
-    } else {
-        calls::say_no_request(rt);
+    if make_call(rt, line, &line[named..], numbers).is_none() {
+        say(rt, b" no request\n");
     }
 }
 
-fn make_call<R: Print>(rt: &R, line: &[u8], numbers: &[u64]) {
+fn make_call<R: Print>(rt: &R, line: &[u8], text: &[u8], numbers: &mut [u64]) -> Option<()> {
+    let count = numbers_of(text, numbers)?;
+    let numbers = &numbers[..count];
     let word = behind(line, b' ');
-    let name = &line[..word];
-    if check::same(name, b"open ") {
-        calls::open(rt, numbers);
-    } else if check::same(name, b"widths ") {
-        calls::widths(rt, numbers);
-    } else if check::same(name, b"write ") {
-        calls::write(rt, numbers);
-    } else if check::same(name, b"read ") {
-        calls::read(rt, numbers);
-    } else if check::same(name, b"scan ") {
-        calls::scan(rt, numbers);
-    } else if check::same(name, b"list ") {
-        calls::list(rt, numbers);
-    } else if check::same(name, b"lookup ") {
-        calls::lookup(rt, numbers);
-    } else {
-        calls::say_no_request(rt);
+    match &line[..word] {
+        b"open " => calls::open(rt, numbers),
+        b"widths " => calls::widths(rt, numbers),
+        b"write " => calls::write(rt, numbers),
+        b"read " => calls::read(rt, numbers),
+        b"scan " => calls::scan(rt, numbers),
+        b"list " => calls::list(rt, numbers),
+        b"lookup " => calls::lookup(rt, numbers),
+        _ => None,
     }
 }

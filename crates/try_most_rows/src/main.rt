@@ -67,9 +67,7 @@ fn put_ending(file: &mut [u8])
     let ending = [
         12u8, 0, 0, 0, 0, 0, 0, 0, 0, 0, 16, 0, 1, 0, 1, 0, 0, 0, 32, 0, 0x42, 0x53, 0x4C, 0x31,
     ];
-    for i in 0..24 {
-        file[BODY + i] = ending[i];
-    }
+    file[BODY..FILE].copy_from_slice(&ending);
 }
 
 // The trailer says 1048577 rows.
@@ -164,22 +162,14 @@ fn show<R: Print>(
     res: &mut [u8],
     room: usize,
 ) {
-    fill(res);
-    let kept = numbers::least(room, res.len());
+    res.fill(UNTOUCHED);
+    let kept = room.min(res.len());
     let scanned = scan::scan(file, size, query, &mut res[..kept]);
     let _ = rt.write_all(name);
     say_reply(rt, scanned);
     say(rt, b", digest ", digest_of(res));
     say(rt, b", after it ", byte_after(res));
     end_line(rt);
-}
-
-fn fill(res: &mut [u8])
-    ensures { res.new ≡ replicate (length res.old) 77 }
-{
-    for i in 0..res.len() {
-        res[i] = UNTOUCHED;
-    }
 }
 
 // A running sum over the bytes that a result needs, so that each byte and its place tell.
@@ -190,8 +180,8 @@ fn digest_of(res: &[u8]) -> usize
         return 0;
     }
     let mut digest: usize = 0;
-    for i in 0..NEED {
-        digest = (digest * 31 + numbers::wide(res[i])) % 65521;
+    for byte in &res[..NEED] {
+        digest = (digest * 31 + usize::from(*byte)) % 65521;
     }
     digest
 }
@@ -200,11 +190,7 @@ fn digest_of(res: &[u8]) -> usize
 fn byte_after(res: &[u8]) -> usize
     ensures { result ≡ get_or res.now 131072 0 }
 {
-    if NEED < res.len() {
-        numbers::wide(res[NEED])
-    } else {
-        0
-    }
+    usize::from(res.get(NEED).copied().unwrap_or(0))
 }
 
 fn say_reply<R: Print>(rt: &R, scanned: Scanned) {

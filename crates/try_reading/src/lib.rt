@@ -1,232 +1,120 @@
-// Reads a request: the numbers of a line, and of these the slices and the outputs of a call. A cursor goes from one to the
-// next; it is NOWHERE from the first on that cannot be read, so that a call looks at the last alone.
+// Reads a request: the numbers of a line, and of these the slices and the output of a call, each from the front of what the ones
+// before it left. What cannot be read so is answered by none.
 #![tactic(auto)]
 
-ghost use Rattle.std.specs.Prelude.{◌≡◌, get_or};
-ghost use Rattle.try_reading.specs.Requests.{is_digit, Behind, NumbersPut, PartFound, Copied, SlicePut, RoomFound};
+ghost use Rattle.std.specs.Prelude.{◌≡◌, ℕ, ◌+◌, ◌-◌, ◌*◌, ◌^◌, ◌≤◌, length, MatchOption};
+ghost use Rattle.try_reading.specs.Requests.{Behind, NumbersPut, Pushed, NoSlice, IsSlice, Made, Unmade, SlicePut, NoSlicePut, NoRoom, IsRoom};
 
-pub const NOWHERE: usize = 18446744073709551615;
-
-// How many numbers were read, and whether these are all.
-#[derive(Clone, Copy)]
-pub struct Numbers {
-    pub count: usize,
-    pub all: bool,
-}
-
-// Where the elements of a slice stand among the numbers, none where it cannot be read, and the place behind it.
-#[derive(Clone, Copy)]
-pub struct Part {
-    pub from: usize,
-    pub to: usize,
-    pub next: usize,
-}
-
-// How many elements of a slice were put into what is lent for them, and the place behind it.
-#[derive(Clone, Copy)]
-pub struct Slice {
-    pub count: usize,
-    pub next: usize,
-}
-
-// How many elements an output has, how many of them are lent, and whether it is the last of a request.
+// How many elements an output has, and how many of them are lent.
 #[derive(Clone, Copy)]
 pub struct Room {
     pub elements: usize,
     pub lent: usize,
-    pub good: bool,
 }
 
 // The place behind the first of these bytes, or the end.
 pub fn behind(bytes: &[u8], byte: u8) -> usize
     ensures { Behind byte bytes.now result }
 {
-    let mut i = 0;
-    while i < bytes.len() {
-        if bytes[i] == byte {
+    for (i, b) in bytes.iter().enumerate() {
+        if *b == byte {
             return i + 1;
         }
-        i = i + 1;
     }
-    i
+    bytes.len()
 }
 
-// Puts the numbers of a text, its runs of digits, into what is lent for them.
-pub fn numbers_of(text: &[u8], out: &mut [u64]) -> Numbers
-    ensures { NumbersPut text.now out.old out.new result.count result.all }
+// Puts the numbers of a text, its runs of digits, into what is lent for them, and answers how many there are: none where it does not
+// have room for all, or 64 bits do not hold one.
+pub fn numbers_of(text: &[u8], out: &mut [u64]) -> Option<usize>
+    ensures { NumbersPut text.now out.old out.new result }
 {
     let mut count: usize = 0;
-    let mut value: u64 = 0;
-    let mut inside = false;
-    let mut i = 0;
-    while i < text.len() {
-        let byte = text[i];
-        i = i + 1;
-        if is_digit(byte) {
-            let digit = numbers::wide64(byte) - 48;
-            if (18446744073709551615 - digit) / 10 < value {
-                return Numbers { count, all: false };
-            }
-            value = value * 10 + digit;
-            inside = true;
-        } else if inside {
-            if count == out.len() {
-                return Numbers { count, all: false };
-            }
-            out[count] = value;
-            count = count + 1;
-            value = 0;
-            inside = false;
+    let mut begun: Option<u64> = None;
+    for byte in text {
+        if byte.is_ascii_digit() {
+            let more = grown(begun.unwrap_or(0), *byte)?;
+            begun = Some(more);
+        } else if let Some(number) = begun {
+            count = push(number, out, count)?;
+            begun = None;
         }
     }
-    if inside {
-        if count == out.len() {
-            return Numbers { count, all: false };
-        }
-        out[count] = value;
-        count = count + 1;
+    match begun {
+        Some(number) => push(number, out, count),
+        None => Some(count),
     }
-    Numbers { count, all: true }
 }
 
-fn is_digit(byte: u8) -> bool
-    ensures { result ≡ is_digit byte }
+// A number with a digit more, where 64 bits hold it.
+fn grown(number: u64, digit: u8) -> Option<u64>
+    requires { 48 ≤ digit }
+    ensures { MatchOption result (2 ^ 64 ≤ number * 10 + (digit - 48)) (λ n. n ≡ number * 10 + (digit - 48)) }
 {
-    if byte < 48 {
-        return false;
+    number.checked_mul(10)?.checked_add(u64::from(digit - b'0'))
+}
+
+// Puts a number behind so many at the front, where there is room, and answers how many there are then.
+fn push(number: u64, out: &mut [u64], count: usize) -> Option<usize>
+    ensures { Pushed number out.old out.new count result }
+{
+    if out.len() <= count {
+        return None;
     }
-    byte < 58
+    out[count] = number;
+    Some(count + 1)
 }
 
-// The number at a place, 0 where there is none.
-pub fn number_at(numbers: &[u64], at: usize) -> u64
-    ensures { result ≡ get_or numbers.now at 0 }
+// The slice at the front, its length and then its elements, and what stands behind it.
+pub fn slice_of(numbers: &[u64]) -> Option<(&[u64], &[u64])>
+    ensures { MatchOption result (NoSlice numbers.now) (λ p. IsSlice numbers.now p.0.now p.1.now) }
 {
-    if at < numbers.len() { numbers[at] } else { 0 }
+    let (many, rest) = numbers.split_first()?;
+    rest.split_at_checked(*many as usize)
 }
 
-// The slice at a place: its length, and then its elements.
-pub fn part_at(numbers: &[u64], at: usize) -> Part
-    ensures { PartFound numbers.now at result }
+// Puts the elements of the slice at the front into what is lent for them, and answers them there, with what stands behind the slice.
+pub fn slice_at<'a, 'n, T: TryFrom<u64> + Copy>(
+    numbers: &'n [u64],
+    out: &'a mut [T],
+) -> Option<(&'a [T], &'n [u64])>
+where
+    T::Error: Drop,
+    ensures { MatchOption result (NoSlicePut T.try_from_gives numbers.now (length out.old)) (λ p. SlicePut T.try_from_gives numbers.now p.0.now p.1.now) }
 {
-    let nowhere = Part {
-        from: 0,
-        to: 0,
-        next: NOWHERE,
+    let (elements, rest) = slice_of(numbers)?;
+    let many = elements.len();
+    if out.len() < many {
+        return None;
+    }
+    make(elements, &mut out[..many])?;
+    Some((&out[..many], rest))
+}
+
+// Makes each number an element.
+fn make<T: TryFrom<u64> + Copy>(numbers: &[u64], out: &mut [T]) -> Option<()>
+where
+    T::Error: Drop,
+    requires { length out.old ≡ length numbers.now }
+    ensures { MatchOption result (Unmade T.try_from_gives numbers.now) (λ _. Made T.try_from_gives numbers.now out.new) }
+{
+    for (i, number) in numbers.iter().enumerate() {
+        out[i] = T::try_from(*number).ok()?;
+    }
+    Some(())
+}
+
+// The output that ends a request, of at most so many elements.
+pub fn room_of(numbers: &[u64], most: usize) -> Option<Room>
+    ensures { MatchOption result (NoRoom most numbers.now) (λ room. IsRoom most numbers.now room.elements room.lent) }
+{
+    let [elements, lent] = *numbers else {
+        return None;
     };
-    if numbers.len() <= at {
-        return nowhere;
+    let elements = elements as usize;
+    let lent = lent as usize;
+    if elements < lent || most < elements {
+        return None;
     }
-    let many = numbers[at] as usize;
-    if numbers.len() - at <= many {
-        return nowhere;
-    }
-    Part {
-        from: at + 1,
-        to: at + 1 + many,
-        next: at + 1 + many,
-    }
-}
-
-// Puts the slice of bytes at a place into what is lent for it.
-pub fn bytes_at(numbers: &[u64], at: usize, out: &mut [u8]) -> Slice
-    ensures { SlicePut 255 numbers.now at out.old out.new result }
-{
-    let part = part_at(numbers, at);
-    let from = part.from;
-    let to = part.to;
-    let copied = copy_bytes(&numbers[from..to], out);
-    if copied < to - from {
-        return Slice {
-            count: 0,
-            next: NOWHERE,
-        };
-    }
-    Slice {
-        count: copied,
-        next: part.next,
-    }
-}
-
-// The same for a slice of row numbers.
-pub fn rows_at(numbers: &[u64], at: usize, out: &mut [u32]) -> Slice
-    ensures { SlicePut 4294967295 numbers.now at out.old out.new result }
-{
-    let part = part_at(numbers, at);
-    let from = part.from;
-    let to = part.to;
-    let copied = copy_rows(&numbers[from..to], out);
-    if copied < to - from {
-        return Slice {
-            count: 0,
-            next: NOWHERE,
-        };
-    }
-    Slice {
-        count: copied,
-        next: part.next,
-    }
-}
-
-// Copies numbers up to the first that is no byte or has no room, and answers how many.
-fn copy_bytes(numbers: &[u64], out: &mut [u8]) -> usize
-    ensures { Copied 255 numbers.now out.old out.new result }
-{
-    let mut i = 0;
-    while i < numbers.len() {
-        if i == out.len() {
-            return i;
-        }
-        if 255 < numbers[i] {
-            return i;
-        }
-        out[i] = numbers[i] as u8;
-        i = i + 1;
-    }
-    i
-}
-
-// The same for row numbers, of 32 bits.
-fn copy_rows(numbers: &[u64], out: &mut [u32]) -> usize
-    ensures { Copied 4294967295 numbers.now out.old out.new result }
-{
-    let mut i = 0;
-    while i < numbers.len() {
-        if i == out.len() {
-            return i;
-        }
-        if 4294967295 < numbers[i] {
-            return i;
-        }
-        out[i] = numbers[i] as u32;
-        i = i + 1;
-    }
-    i
-}
-
-// The output at a place, of at most so many elements, which ends the request.
-pub fn room_at(numbers: &[u64], at: usize, most: usize) -> Room
-    ensures { RoomFound most numbers.now at result }
-{
-    let none = Room {
-        elements: 0,
-        lent: 0,
-        good: false,
-    };
-    if numbers.len() < 2 {
-        return none;
-    }
-    if at != numbers.len() - 2 {
-        return none;
-    }
-    let elements = numbers[at] as usize;
-    let lent = numbers[at + 1] as usize;
-    if most < elements {
-        return none;
-    }
-    Room {
-        elements,
-        lent,
-        good: true,
-    }
+    Some(Room { elements, lent })
 }

@@ -6,9 +6,9 @@ use lib.ListN.{length}
 use Rattle.listing.specs.Found.{found_lines}
 use Rattle.printing.proofs.print_found.Given as goal
 
-abbrev pub invariant-loop-found : goal.invariant-loop-found
-invariant-loop-found g l =
+abbrev pub invariant-loop-piece : goal.invariant-loop-piece
+invariant-loop-piece g l =
     (0 < length l.out) × (length l.out ≡ length l.initial.out) × (l.written ≤ length (found_lines l.file l.bits l.found))
 
-abbrev pub decreases-loop-found : goal.decreases-loop-found
-decreases-loop-found g l = 2 ^ 64 - l.written
+abbrev pub decreases-loop-piece : goal.decreases-loop-piece
+decreases-loop-piece g l = 2 ^ 64 - l.written

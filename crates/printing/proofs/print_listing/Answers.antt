@@ -10,7 +10,6 @@ print_found-requires g c =
 pub returns : goal.returns
 returns g c =
     record {
-      within = c.print_found.ensures.within;
       whole = length_of_inputs _ _ _ _ _ _ c.prepare-found.ensures c.print_found.ensures.whole;
-      why = c.print_found.ensures.why;
+      within = c.print_found.ensures.within;
     }

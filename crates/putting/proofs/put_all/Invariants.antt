@@ -3,8 +3,8 @@
 use Rattle.std.proofs.Common.{length, ◌+◌, ◌-◌, ◌≤◌}
 use Rattle.putting.proofs.put_all.Given as goal
 
-abbrev pub invariant-loop-done : goal.invariant-loop-done
-invariant-loop-done g l = l.done ≤ length l.bytes
+abbrev pub invariant-loop-taken : goal.invariant-loop-taken
+invariant-loop-taken g l = l.taken ≤ length l.bytes
 
-abbrev pub decreases-loop-done : goal.decreases-loop-done
-decreases-loop-done g l = (length l.bytes - l.done) + l.waits
+abbrev pub decreases-loop-taken : goal.decreases-loop-taken
+decreases-loop-taken g l = (length l.bytes - l.taken) + l.waits

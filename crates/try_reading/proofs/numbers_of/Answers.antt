@@ -1,128 +1,82 @@
--- `try_reading::numbers_of` meets its contract: the numbers are those in the output and
--- those that the rest of the text holds. Assumes nothing.
-use Prim.Native.Nat.{ℕ, ◌+◌, ◌-◌, ◌*◌}
-use mathlib.Core.Path.{◌≡◌, refl, sym, ap, ◌∙◌}
-use native.Mathlib.Omega.{arith}
-use mathlib.Core.List.{List, [], ◌∷◌, ◌++◌, append-nil}
-use mathlib.Core.Bool.{true, false}
-use lib.ListN.{get_or, take, drop, length-set}
-use lib.Seq.{length-take-le}
-use Rattle.try_reading.specs.Requests.{is_digit, numbers_in, numbers_after, many, large}
-use Rattle.try_reading.proofs.Requests.{counted, grown, ended, skipped, digit_from, last_ended, none_begun}
-use Rattle.try_reading.proofs.Requests.{pushed, longer, large_stays, member_behind}
+-- `try_reading::numbers_of` meets its contract: the numbers are those in the output and those that the rest of the text holds.
+-- Assumes nothing.
+use Rattle.std.proofs.Common.{rules, ◌≡◌, ℕ, ◌+◌, ◌-◌, ◌*◌, ◌^◌, ◌≤◌, true, false, sym, ◌∙◌, length, arith, refl, get_or, take, drop, set, length-set}
+use Rattle.std.specs.Prelude.{unwrap_or}
+use Rattle.std.specs.Char.{is_ascii_digit}
+use Rattle.try_reading.specs.Requests.{numbers_in, numbers_after, Unfit}
+use Rattle.try_reading.proofs.Requests.{digit_more, too_large, none_more, number_more, last_number, no_number, no_room, stands, put_last}
 use Rattle.try_reading.proofs.numbers_of.Goals as goal
+use Rattle.try_reading.proofs.numbers_of.Goals.{then-is_ascii_digit+in_ok-more, else-is_ascii_digit+in-Some+in_ok-count}
+use Rattle.try_reading.proofs.numbers_of.Goals.{else-is_ascii_digit+in_default}
 
-pub loop-i-init : goal.loop-i-init
-loop-i-init c = (omega arith, omega arith, refl, refl)
-
-pub overflow_sub-digit : goal.overflow_sub-digit
-overflow_sub-digit c =
+pub returns-in_err-more : goal.returns-in_err-more
+returns-in_err-more c =
+    let turn = c.loop-byte in
     let text = c.args.text.now in
-    let digit = sym c.is_digit.ensures ∙ c.if-is_digit.true in
-    omega (arith, digit_from (get_or text c.loop-i.i 0) digit)
+    let digit : is_ascii_digit (get_or text turn.byte-index 0) ≡ true = sym c.is_ascii_digit.ensures.value ∙ c.if-is_ascii_digit.true in
+    let above : 2 ^ 64 ≤ unwrap_or turn.begun 0 * 10 + (get_or text turn.byte-index 0 - 48) =
+    omega (arith, c.in_err-more.ensures, c.unwrap_or.ensures) in
+    let unfit : Unfit (length c.args.out.now) (numbers_in text) =
+    rw (← turn.invariant.same_length) (too_large _ text turn.out turn.byte-index turn.count turn.begun turn.invariant.counted turn.invariant.read (omega arith) digit above) in
+    rw c.from_residual.ensures unfit
 
-pub returns-then-digit-value : goal.returns-then-digit-value
-returns-then-digit-value c =
-    let turn = c.loop-i in
+pub returns-in_err-count : goal.returns-in_err-count
+returns-in_err-count c =
+    let turn = c.loop-byte in
     let text = c.args.text.now in
-    let front = take turn.count turn.out in
-    let digit : is_digit (get_or text turn.i 0) ≡ true =
-    sym c.is_digit.ensures ∙ c.if-is_digit.true in
-    let all : numbers_in text ≡ front ++ (numbers_after true (turn.value * 10 + (get_or text turn.i 0 - 48)) (drop (turn.i + 1) text)) =
-    turn.invariant.3 ∙ ap (λ (l : List ℕ). front ++ l) (grown text turn.i (omega arith) turn.inside turn.value digit) in
-    let found =
-    large_stays (drop (turn.i + 1) text) (turn.value * 10 + (get_or text turn.i 0 - 48))
-    (omega (arith, c.wide64-digit.ensures.same)) in
-    record {
-      read = large found.0 (rw all (member_behind front found.1)) found.2;
-      within = counted _ _ turn.invariant.1;
-    }
+    let other : is_ascii_digit (get_or text turn.byte-index 0) ≡ false = sym c.is_ascii_digit.ensures.value ∙ c.if-is_ascii_digit.false in
+    let all =
+    number_more _ text turn.out turn.byte-index turn.count turn.begun turn.invariant.counted turn.invariant.read (omega arith) other c.in-Some.is in
+    let unfit : Unfit (length c.args.out.now) (numbers_in text) =
+    rw (← turn.invariant.same_length) (no_room _ turn.out turn.count _ _ all turn.invariant.counted c.in_err-count.ensures) in
+    rw c.from_residual-in_err-count.ensures unfit
 
-pub loop-i-preserved-then-is_digit : goal.loop-i-preserved-then-is_digit
-loop-i-preserved-then-is_digit c =
-    let turn = c.loop-i in
+pub loop-byte-preserved : goal.loop-byte-preserved
+loop-byte-preserved c =
+    let turn = c.loop-byte in
     let text = c.args.text.now in
-    let front = take turn.count turn.out in
-    let digit : is_digit (get_or text turn.i 0) ≡ true =
-    sym c.is_digit.ensures ∙ c.if-is_digit.true in
-    let all : numbers_in text ≡ front ++ (numbers_after true (turn.value * 10 + (get_or text turn.i 0 - 48)) (drop (turn.i + 1) text)) =
-    turn.invariant.3 ∙ ap (λ (l : List ℕ). front ++ l) (grown text turn.i (omega arith) turn.inside turn.value digit) in
-    (omega arith, turn.invariant.1, turn.invariant.2, rw c.wide64-digit.ensures.same all)
+    let step = turn.invariant in
+    elim c.if-is_ascii_digit.branch [
+      | then-is_ascii_digit+in_ok-more w ↦
+          let digit : is_ascii_digit (get_or text turn.byte-index 0) ≡ true = sym c.is_ascii_digit.ensures.value ∙ w.if-is_ascii_digit.true in
+          let more : w.in_ok-more.more ≡ unwrap_or turn.begun 0 * 10 + (get_or text turn.byte-index 0 - 48) =
+          omega (arith, w.in_ok-more.ensures, w.unwrap_or.ensures) in
+          let read = digit_more _ text turn.out turn.byte-index turn.count turn.begun step.counted step.read {more = w.in_ok-more.more} (omega arith) digit more in
+          record {
+            counted = rw (w.count-is, w.out-is) step.counted;
+            same_length = rw w.out-is step.same_length;
+            read = rw (w.count-is, w.out-is, w.begun-is) read;
+          }
+      | else-is_ascii_digit+in-Some+in_ok-count w ↦
+          let other : is_ascii_digit (get_or text turn.byte-index 0) ≡ false = sym c.is_ascii_digit.ensures.value ∙ w.if-is_ascii_digit.false in
+          let all = number_more _ text turn.out turn.byte-index turn.count turn.begun step.counted step.read (omega arith) other w.in-Some.is in
+          let made = stands _ turn.out w.push.new.out turn.count _ w.in_ok-count.count _ all w.in_ok-count.ensures in
+          record {
+            counted = rw (w.count-is, w.out-is) made.counted;
+            same_length = rw w.out-is (made.same_length ∙ step.same_length);
+            read = rw (w.count-is, w.out-is, w.begun-is) made.read;
+          }
+      | else-is_ascii_digit+in_default w ↦
+          let other : is_ascii_digit (get_or text turn.byte-index 0) ≡ false = sym c.is_ascii_digit.ensures.value ∙ w.if-is_ascii_digit.false in
+          record {
+            counted = rw (w.count-is, w.out-is) step.counted;
+            same_length = rw w.out-is step.same_length;
+            read =
+                rw (w.count-is, w.out-is, w.begun-is, w.in_default.is)
+                (none_more _ text turn.out turn.byte-index turn.count turn.begun step.counted step.read (omega arith) other w.in_default.is);
+          }
+    ]
 
-pub returns-then-count-out : goal.returns-then-count-out
-returns-then-count-out c =
-    let turn = c.loop-i in
+pub returns-in-Some-begun : goal.returns-in-Some-begun
+returns-in-Some-begun c =
+    let turn = c.loop-byte in
     let text = c.args.text.now in
-    let front = take turn.count turn.out in
-    let other : is_digit (get_or text turn.i 0) ≡ false =
-    sym c.is_digit.ensures ∙ c.if-is_digit.false in
-    let all : numbers_in text ≡ front ++ (turn.value ∷ numbers_after false 0 (drop (turn.i + 1) text)) =
-    turn.invariant.3
-    ∙ ap (λ (l : List ℕ). front ++ l) (rw c.if-inside.true (ended text turn.i (omega arith) turn.value other)) in
-    let many_more = longer _ front _ _ all in
-    record {
-      read = many (omega (arith, many_more, length-take-le turn.count turn.out turn.invariant.1, turn.invariant.2));
-      within = counted _ _ turn.invariant.1;
-    }
+    let all =
+    last_number _ text turn.out turn.byte-index turn.count turn.begun turn.invariant.counted turn.invariant.read (omega arith) c.in-Some-begun.is in
+    rw (← turn.invariant.same_length) (put_last _ turn.out _ turn.count _ _ all turn.invariant.counted c.push-in-Some-begun.ensures)
 
-pub loop-i-preserved-then-inside : goal.loop-i-preserved-then-inside
-loop-i-preserved-then-inside c =
-    let turn = c.loop-i in
+pub returns-in-None : goal.returns-in-None
+returns-in-None c =
+    let turn = c.loop-byte in
     let text = c.args.text.now in
-    let front = take turn.count turn.out in
-    let other : is_digit (get_or text turn.i 0) ≡ false =
-    sym c.is_digit.ensures ∙ c.if-is_digit.false in
-    let all : numbers_in text ≡ front ++ (turn.value ∷ numbers_after false 0 (drop (turn.i + 1) text)) =
-    turn.invariant.3
-    ∙ ap (λ (l : List ℕ). front ++ l) (rw c.if-inside.true (ended text turn.i (omega arith) turn.value other)) in (
-      omega arith,
-      simp length-set (omega arith),
-      simp length-set turn.invariant.2,
-      all ∙ sym (pushed turn.out turn.count turn.value _ (omega arith)),
-    )
-
-pub loop-i-preserved : goal.loop-i-preserved
-loop-i-preserved c =
-    let turn = c.loop-i in
-    let text = c.args.text.now in
-    let front = take turn.count turn.out in
-    let other : is_digit (get_or text turn.i 0) ≡ false = sym c.is_digit.ensures ∙ c.if-is_digit.false in (
-      omega arith,
-      turn.invariant.1,
-      turn.invariant.2,
-      turn.invariant.3 ∙ ap (λ (l : List ℕ). front ++ l) (rw c.if-inside.false (skipped text turn.i (omega arith) turn.value other)),
-    )
-
-pub returns-then-count-out-2 : goal.returns-then-count-out-2
-returns-then-count-out-2 c =
-    let turn = c.loop-i in
-    let text = c.args.text.now in
-    let front = take turn.count turn.out in
-    let all : numbers_in text ≡ front ++ (turn.value ∷ []) =
-    turn.invariant.3 ∙ ap (λ (l : List ℕ). front ++ l) (rw c.if-inside-2.true (last_ended text turn.i turn.value (omega arith))) in
-    let many_more = longer _ front _ _ all in
-    record {
-      read = many (omega (arith, many_more, length-take-le turn.count turn.out turn.invariant.1, turn.invariant.2));
-      within = counted _ _ turn.invariant.1;
-    }
-
-pub returns-else-count-out-2 : goal.returns-else-count-out-2
-returns-else-count-out-2 c =
-    let turn = c.loop-i in
-    let text = c.args.text.now in
-    let front = take turn.count turn.out in
-    let all : numbers_in text ≡ front ++ (turn.value ∷ []) =
-    turn.invariant.3 ∙ ap (λ (l : List ℕ). front ++ l) (rw c.if-inside-2.true (last_ended text turn.i turn.value (omega arith))) in
-    record {
-      read = all ∙ sym (pushed turn.out turn.count turn.value [] (omega arith)) ∙ append-nil _;
-      within = counted _ _ (simp length-set (omega arith));
-    }
-
-pub returns-else-inside-2 : goal.returns-else-inside-2
-returns-else-inside-2 c =
-    let turn = c.loop-i in
-    let text = c.args.text.now in
-    let front = take turn.count turn.out in
-    let all : numbers_in text ≡ front ++ [] =
-    turn.invariant.3 ∙ ap (λ (l : List ℕ). front ++ l) (rw c.if-inside-2.false (none_begun text turn.i turn.value (omega arith))) in
-    record { read = all ∙ append-nil front; within = counted _ _ turn.invariant.1 }
+    no_number _ text turn.out turn.byte-index turn.count turn.begun turn.invariant.counted turn.invariant.read (omega arith) c.in-None.is

@@ -1,2 +1,0 @@
--- What the answers of std say of a read.
-pub mod Signs

@@ -1,3 +1,0 @@
--- What is printed of what was taken, piece by piece.
-pub mod Fronts
-pub mod Pieces
