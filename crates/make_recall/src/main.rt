@@ -8,7 +8,6 @@ ghost use Rattle.basis.specs.Lists.{below};
 ghost use Rattle.basis.specs.Buffers.{laid};
 ghost use Rattle.make_recall.specs.Pickups.{lot_of, issue_of, bench_of, site_of, code_of, code_at};
 
-use answers::Answer;
 use std::io::Write;
 use std::rt::{Clock, Files};
 
@@ -30,9 +29,9 @@ fn print_register<R: Files + Clock + Eprint, W: Write>(
     out: &mut [u8],
 ) {
     fill(codes);
-    let Answer::Elements(_) = writer::write(ROWS, widths, codes, out) else {
+    if writer::write(ROWS, widths, codes, out).is_err() {
         return;
-    };
+    }
     if let Err(stopped) = putting::put_all(rt, output, out) {
         putting::fail(rt, "make_recall: the file is not whole", &stopped.error);
         return;

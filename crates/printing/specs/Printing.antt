@@ -4,6 +4,7 @@ use Rattle.std.specs.Prelude.{Option, None, Result, Ok, Err, IfErr, MatchResult}
 use Rattle.files.specs.Taking.{count_of, TakenInto}
 use Rattle.limits.specs.Limits.{most_file}
 use Rattle.pieces.specs.Pieces.{PieceWritten}
+use Rattle.refusals.specs.declared.Refusal.{Refusal}
 use Rattle.finding.specs.declared.Found.{Found}
 use Rattle.listing.specs.Found.{Listable, found_lines}
 use Rattle.listing.specs.Inputs.{unread_input, unread_inputs, PrintLength}
@@ -38,7 +39,7 @@ pub record InputsTaken (out : List ℕ) (taken : Option ℕ) (file : List ℕ) (
   pub text_within : count_of given ≤ length text
 
 -- there is a buffer to print by, and what was found can be listed
-pub record FoundPrintable (out file : List ℕ) (found : Found) : Type 0 where
+pub record FoundPrintable (out file : List ℕ) (found : Result Found Refusal) : Type 0 where
   pub some_room : 0 < length out
   pub listable : Listable file found
 
@@ -48,7 +49,7 @@ all_of (Ok all) = all
 all_of (Err cut) = cut.all
 
 -- all is printed that there is, which is as long as what was found lists; or less is, and it is said why
-pub record FoundPrinted (file bits : List ℕ) (found : Found) (printed : Result ℕ CutShort) : Type 0 where
+pub record FoundPrinted (file bits : List ℕ) (found : Result Found Refusal) (printed : Result ℕ CutShort) : Type 0 where
   pub whole : all_of printed ≡ length (found_lines file bits found)
   pub within : IfErr printed (λ cut. cut.written < cut.all)
 

@@ -11,6 +11,7 @@ ghost use Rattle.printing.specs.Printing.{InputsTaken, FoundPrintable, FoundPrin
 
 use finding::Found;
 use limits::{MOST_BITS, MOST_FILE};
+use refusals::Refusal;
 use std::io;
 use std::io::{Read, Write};
 use std::rt::{Clock, Files};
@@ -114,7 +115,7 @@ fn print_found<R: Clock, W: Write>(
     rt: &R,
     output: &mut W,
     file: &[u8],
-    found: Found,
+    found: Result<Found, Refusal>,
     bits: &[u8; MOST_BITS],
     out: &mut [u8],
 ) -> Result<usize, CutShort>
@@ -136,7 +137,7 @@ fn print_piece<R: Clock, W: Write>(
     rt: &R,
     output: &mut W,
     file: &[u8],
-    found: Found,
+    found: Result<Found, Refusal>,
     bits: &[u8; MOST_BITS],
     from: usize,
     out: &mut [u8],

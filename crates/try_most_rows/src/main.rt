@@ -8,8 +8,9 @@ ghost use Rattle.basis.specs.Buffers.{laid};
 ghost use Rattle.query.specs.Tests.{tests_of};
 ghost use Rattle.try_most_rows.specs.Made.{body_bytes, file_bytes, if_long, HasCodes, ending, test_of};
 
-use limits::MOST_ROWS;
+use limits::{MOST_ROWS, MOST_TESTS};
 use query::{Comparison, Query, Test};
+use refusals::Refusal;
 use scan::Scanned;
 
 // A column of 12 bits is two slices; a directory of 8 bytes and a trailer of 16 follow them.
@@ -193,14 +194,27 @@ fn byte_after(res: &[u8]) -> usize
     usize::from(res.get(NEED).copied().unwrap_or(0))
 }
 
-fn say_reply<R: Print>(rt: &R, scanned: Scanned) {
-    let refusal = scanned.refusal;
-    let counts = scanned.counts;
-    say(rt, b": number ", refusal.number);
-    say(rt, b" place ", refusal.place);
-    say(rt, b" need ", refusal.need);
-    say(rt, b" matches ", scanned.matches);
-    say(rt, b" total ", scanned.total);
+// A refusal answers 0 for each number of a scan, and a scan 0 for those of a refusal.
+fn say_reply<R: Print>(rt: &R, reply: Result<Scanned, Refusal>) {
+    match reply {
+        Ok(scanned) => {
+            say_refusal(rt, 0, 0, 0);
+            say_numbers(rt, scanned.matches, scanned.total, scanned.counts);
+        }
+        Err(refusal) => {
+            say_refusal(rt, refusal.number(), refusal.place(), refusal.need());
+            say_numbers(rt, 0, 0, [0; MOST_TESTS]);
+        }
+    }
+}
+
+fn say_refusal<R: Print>(rt: &R, number: u64, place: usize, need: usize) {
+    let _ = print!(rt; ": number {number} place {place} need {need}");
+}
+
+fn say_numbers<R: Print>(rt: &R, matches: usize, total: usize, counts: [usize; MOST_TESTS]) {
+    say(rt, b" matches ", matches);
+    say(rt, b" total ", total);
     say(rt, b" counts ", counts[0]);
     say(rt, b" ", counts[1]);
     say(rt, b" ", counts[2]);
