@@ -22,7 +22,7 @@ module _ {A : Type 0} (lines : List Line) (elements : ℕ) (list out : List A) w
   Replied reply after = record {
     answer : reply ≡ answer_of lines elements;
     shown : shown_of reply ≡ shown_for lines elements;
-    left : after ≡ left_by lines out list
+    left : after ≡ left_by lines out list;
   }
 
   pub refused_by : {line : Line} → first_line lines ≡ some line → Replied (Err line.refusal) out

@@ -67,7 +67,12 @@ fn unfit_entry(entry: &[u8], offset: usize) -> bool
 }
 
 // Goes through the directory column by column: how many slices all columns have, or the first that is unfit.
-pub fn fit_columns(file: &[u8], directory: usize, rows: usize, columns: usize) -> Result<usize, FirstUnfit>
+pub fn fit_columns(
+    file: &[u8],
+    directory: usize,
+    rows: usize,
+    columns: usize,
+) -> Result<usize, FirstUnfit>
     requires { DirectoryThere file.now directory rows columns }
     ensures { FitUpTo file.now columns result }
 {

@@ -43,12 +43,9 @@ scan_numbers = 5 + most_tests
 abbrev pub longest_segment : ℕ
 longest_segment = 64
 
--- a scan keeps a standing for each test and row of a segment, and plans two bytes for each test and slice
+-- a scan keeps a standing for each test and row of a segment
 abbrev pub standing_places : ℕ
 standing_places = most_tests * longest_segment
-
-abbrev pub plan_places : ℕ
-plan_places = most_tests * most_slices
 
 -- the writer takes rows by blocks of 256
 abbrev pub block_rows : ℕ

@@ -35,10 +35,8 @@ pub const SCAN_NUMBERS: usize = 5 + MOST_TESTS;
 // A segment: its rows.
 pub const LONGEST_SEGMENT: usize = 64;
 
-// A scan: a standing for each test and row of a segment, and two planned bytes for each test and slice.
+// A scan: a standing for each test and row of a segment.
 pub const STANDING_PLACES: usize = MOST_TESTS * LONGEST_SEGMENT;
-
-pub const PLAN_PLACES: usize = MOST_TESTS * MOST_SLICES;
 
 // The writer: rows that it takes at a time, and codes of eight rows that it looks at at once.
 pub const BLOCK_ROWS: usize = 256;

@@ -68,7 +68,12 @@ fn compared<F: FnOnce(u64) -> Comparison>(
 {
     match decimals::byte_at(text, at) {
         b' ' => {
-            let (literal, next) = decimals::read_number(text, at + 1, After::LineFeed, GREATEST_DECIMAL)?;
+            let (literal, next) = decimals::read_number(
+                text,
+                at + 1,
+                After::LineFeed,
+                GREATEST_DECIMAL,
+            )?;
             Some((comparison(literal), next))
         }
         _ => None,

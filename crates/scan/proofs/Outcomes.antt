@@ -39,7 +39,7 @@ module _ (file : List ℕ) (size : ℕ) (query : Query) (out : List ℕ) where
   abbrev pub Answered : Result Scanned Refusal → List ℕ → Type 0
   Answered reply after = record {
     answer : reply ≡ scanned_of file size query (length out);
-    left : after ≡ left_in file size query out
+    left : after ≡ left_in file size query out;
   }
 
   pub refused_by : {line : Line} → first_line (scan_lines file size query (length out)) ≡ some line → Answered (Err line.refusal) out

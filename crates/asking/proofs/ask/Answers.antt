@@ -23,7 +23,7 @@ promised : (start : Start) {reply : Result Shape Refusal} →
     reply ≡ asked_of a.file.now a.size a.query →
     record {
       answer : reply ≡ asked_of a.file.now a.size a.query;
-      fit : (shape : Shape) → reply ≡ Ok shape → Judged a.file.now shape a.query.tests a.query.count × (unfit_size a.size ≡ false)
+      fit : (shape : Shape) → reply ≡ Ok shape → Judged a.file.now shape a.query.tests a.query.count × (unfit_size a.size ≡ false);
     }
 promised start answered =
     let slots : length start.args.query.tests ≡ most_tests = omega arith in

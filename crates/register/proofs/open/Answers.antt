@@ -92,7 +92,7 @@ unfolding open_lines
 returns-then-trailer-gt-MOST_ROWS c =
     let p = goal.at.returns-then-trailer-gt-MOST_ROWS c in
     let many : most_rows < rows_in c.args.file.now =
-        omega (arith, (read p.After-read_trailer-trailer).rows, c.if-trailer-gt-MOST_ROWS.true) in
+    omega (arith, (read p.After-read_trailer-trailer).rows, c.if-trailer-gt-MOST_ROWS.true) in
     opening.refused_by _ (stops (past_2 p.Else-trailer-ne1) (lt-ltb _ _ many))
 
 pub returns-then-trailer-eq0 : goal.returns-then-trailer-eq0
@@ -107,7 +107,7 @@ unfolding open_lines
 returns-then-trailer-gt-MOST_COLUMNS c =
     let p = goal.at.returns-then-trailer-gt-MOST_COLUMNS c in
     let many : most_columns < columns_in c.args.file.now =
-        omega (arith, (read p.After-read_trailer-trailer).columns, c.if-trailer-gt-MOST_COLUMNS.true) in
+    omega (arith, (read p.After-read_trailer-trailer).columns, c.if-trailer-gt-MOST_COLUMNS.true) in
     opening.refused_by _ (stops (past_3 p.Else-trailer-gt-MOST_ROWS) (right_holds (eqb (columns_in c.args.file.now) 0) _ (lt-ltb _ _ many)))
 
 pub returns-then-trailer-length : goal.returns-then-trailer-length
@@ -139,7 +139,7 @@ returns-in_err-slices c =
     let columns = (read p.After-read_trailer-trailer).columns in
     let unfit = c.in_err-slices.ensures in
     let first : c.in_err-slices.field-0.0.column ≡ first_unfit_column file =
-        unfit.first_unfit ∙ ap (first_place (unfit_column file)) columns in
+    unfit.first_unfit ∙ ap (first_place (unfit_column file)) columns in
     let there : first_unfit_column file < columns_in file = omega (arith, unfit.is_there, first, columns) in
     let told = err_from_is_err_and c.from_residual.result c.from_residual.ensures.1 in
     rw (told.1, told.2, first) (opening.refused_by _ (stops (past_5 p.Else-trailer-length) (lt-ltb _ _ there)))
