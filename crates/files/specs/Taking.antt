@@ -2,11 +2,6 @@
 -- leaves of the buffer. Which bytes the operating system puts there is not said: no contract of std's says it. Assumes nothing.
 use Rattle.std.specs.Prelude.{ℕ, ◌≤◌, min, ◌≡◌, List, length, Option, Some, None, Result, Ok, Err}
 
--- the number of an answer: 18 where the input is unreadable; its place and need are 0
-abbrev pub number_of : Option ℕ → ℕ
-number_of (Some n) = 0
-number_of None = 18
-
 -- how many bytes an answer counts: none where the input is unreadable
 abbrev pub count_of : Option ℕ → ℕ
 count_of (Some n) = n
