@@ -50,7 +50,11 @@ fn has_argument<R: Env>(rt: &R) -> bool {
 
 // Says that the listing is not whole, why, and how much of it was written.
 fn say_cut_short<R: Eprint>(rt: &R, cut: CutShort) {
-    let CutShort { written, all, error } = cut;
+    let CutShort {
+        written,
+        all,
+        error,
+    } = cut;
     putting::fail(rt, "list_parts: the listing is not whole", &error);
     let _ = eprintln!(rt; "list_parts: {written} of {all} bytes were written");
 }
