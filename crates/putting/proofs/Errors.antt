@@ -1,7 +1,7 @@
 -- What the error of a write says. Assumes nothing.
 --   later_by, failed_by    an error that passes, and one that does not
 --   passing_numbers        of the system's error numbers 11 passes, that the reader is behind, and 4, that a signal came, and no other
-use Rattle.std.proofs.Common.{rules, ◌≡◌, ℕ, refl, true, false, ◌||◌, eqb, ◌↔◌, ◌⊎◌, inl, inr, pos, List, [], ◌∷◌, nat_lt, arith}
+use Rattle.std.proofs.Common.{rules, ◌≡◌, ℕ, true, false, ◌||◌, eqb, ◌↔◌, ◌⊎◌, inl, inr, pos, List, [], ◌∷◌, nat_lt, arith}
 use borrow.Author.Tests.{le-ltb}
 use Rattle.std.proofs.lemmas.Bool.{eqb-true}
 use Rattle.std.proofs.lemmas.Bool.Decides.{eqb_tells}

@@ -88,6 +88,7 @@ fn pause(clock: &impl Clock) {
 }
 
 // Says on standard error what failed, as the caller names it, and why. Where that cannot be written there is nowhere to say it.
+// Each program ends by this and by saved, in words of its own: a function for all their ends would promise nothing.
 pub fn fail<R: Eprint>(rt: &R, what: &str, error: &io::Error) {
     let mut text = [0u8; MOST_WORDS];
     let words = words_of(error, &mut text);

@@ -41,7 +41,8 @@ pub record NumbersRead (numbers out : List ℕ) (count : ℕ) : Type 0 where
 
 -- the numbers of a text were put there, or they are unfit
 abbrev pub NumbersPut : List ℕ → List ℕ → List ℕ → Option ℕ → Type 0
-NumbersPut text before after count = MatchOption count (Unfit (length before) (numbers_in text)) (λ n. NumbersRead (numbers_in text) after n)
+NumbersPut text before after count =
+    MatchOption count (Unfit (length before) (numbers_in text)) (λ n. NumbersRead (numbers_in text) after n)
 
 -- a number stands behind so many, or there is no room
 pub record IsPushed (number : ℕ) (before after : List ℕ) (count more : ℕ) : Type 0 where

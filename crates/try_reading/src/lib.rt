@@ -3,7 +3,8 @@
 #![tactic(auto)]
 
 ghost use Rattle.std.specs.Prelude.{◌≡◌, ℕ, ◌+◌, ◌-◌, ◌*◌, ◌^◌, ◌≤◌, length, MatchOption};
-ghost use Rattle.try_reading.specs.Requests.{Behind, NumbersPut, Pushed, NoSlice, IsSlice, Made, Unmade, SlicePut, NoSlicePut, NoRoom, IsRoom};
+ghost use Rattle.try_reading.specs.Requests.{Behind, NumbersPut, Pushed, NoSlice, IsSlice, Made, Unmade};
+ghost use Rattle.try_reading.specs.Requests.{SlicePut, NoSlicePut, NoRoom, IsRoom};
 
 // How many elements an output has, and how many of them are lent.
 #[derive(Clone, Copy)]
@@ -80,7 +81,8 @@ pub fn slice_at<'a, 'n, T: TryFrom<u64> + Copy>(
 ) -> Option<(&'a [T], &'n [u64])>
 where
     T::Error: Drop,
-    ensures { MatchOption result (NoSlicePut T.try_from_gives numbers.now (length out.old)) (λ p. SlicePut T.try_from_gives numbers.now p.0.now p.1.now) }
+    ensures { MatchOption result (NoSlicePut T.try_from_gives numbers.now (length out.old))
+        (λ p. SlicePut T.try_from_gives numbers.now p.0.now p.1.now) }
 {
     let (elements, rest) = slice_of(numbers)?;
     let many = elements.len();

@@ -1,5 +1,5 @@
 -- `try_reading::behind` meets its contract: what is passed holds none of the bytes. Assumes nothing.
-use Rattle.std.proofs.Common.{◌≡◌, refl, arith, length, drop}
+use Rattle.std.proofs.Common.{◌≡◌, refl, arith, drop}
 use lib.ListN.{drop_of_length-le}
 use Rattle.try_reading.specs.Requests.{behind_of}
 use Rattle.try_reading.proofs.Requests.{counted, here, later}
