@@ -74,10 +74,10 @@ module _ (file : List ℕ) (size : ℕ) (query : Query) where
       opens (asked_passes shape told) ∙ ap Ok (sym (told_is_accepted (ask_lines file size query) (shape_in file) shape told).1)
 
   pub judged_as_asked : length query.tests ≡ most_tests → (shape : Shape) → asked_of file size query ≡ Ok shape →
-      Judged file shape query.tests query.count × (unfit_size size ≡ false)
+      Judged file shape query × (unfit_size size ≡ false)
   judged_as_asked slots shape told =
       let yes = asked_passes shape told in (
-        judged file shape query.tests query.count (opened_as_asked shape told) (few_tests yes) (omega (arith, few_tests yes)) 0
+        judged file shape query (opened_as_asked shape told) (few_tests yes) (omega (arith, few_tests yes)) 0
             (each_fits yes),
         fit_size yes,
       )

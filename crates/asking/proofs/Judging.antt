@@ -6,14 +6,14 @@
 --   judged                       where no test of a query is refused, and the file opened, the query has been judged
 use Prim.Native.Nat.{ℕ, suc, ◌≤◌, ◌<◌}
 use native.Mathlib.Omega.{arith}
-use mathlib.Core.Path.{◌≡◌, refl, ap, ◌∙◌}
+use mathlib.Core.Path.{◌≡◌, ap, ◌∙◌}
 use mathlib.Core.Logic.{◌⊎◌, inl, inr}
 use mathlib.Core.List.Memᴰ
 use mathlib.Core.List.{List, [], ◌∷◌, ◌++◌}
 use mathlib.Core.Bool.{true, false}
-use mathlib.Core.Option.{Option, none, some}
+use mathlib.Core.Option.{none}
 use borrow.Author.Tests.{le-leb, lt-leb, leb-false}
-use lib.ListN.{length, take, drop}
+use lib.ListN.{length, drop}
 use lib.Seq.{drop-cons, get_or-take, length-take-le}
 use Rattle.basis.specs.Refusals.{Line, refuse, first_line}
 use Rattle.basis.proofs.Lists.{at_is_member}
@@ -31,7 +31,8 @@ use Rattle.directory.specs.File.{columns_in, width_in}
 use Rattle.register.specs.Opening.{opened_of}
 use Rattle.register.proofs.Fit.{columns_as_opened}
 use Rattle.query.specs.declared.Test.{Test}
-use Rattle.query.specs.Tests.{literal_of, empty_slot, test_at}
+use Rattle.query.specs.declared.Query.{Query}
+use Rattle.query.specs.Tests.{literal_of, empty_slot, tests_of, test_at}
 use Rattle.asking.specs.Refusals.{lines_for, lines_for_all}
 use Rattle.asking.specs.Verdicts.{verdict_of}
 use Rattle.asking.specs.Judged.{Judged}
@@ -96,9 +97,10 @@ module _ {all : List Line} (file : List ℕ) (place : ℕ) (tests : List Test) (
       let by = refusal_told (lines_for file place (test_at tests t)) tt refusal unfit in
       answer_refused _ _ (stops_within (lines_for file place (test_at tests t)) _ at_test by.0 by.1) ∙ ap Err by.2
 
-pub judged : (file : List ℕ) (shape : Shape) (tests : List Test) (count : ℕ) → opened_of file ≡ Ok shape → count ≤ most_tests →
-    count ≤ length tests → (place : ℕ) → first_line (lines_for_all file place (take count tests)) ≡ none → Judged file shape tests count
-judged file shape tests count opened few there place none_answers =
+pub judged : (file : List ℕ) (shape : Shape) (query : Query) → opened_of file ≡ Ok shape → query.count ≤ most_tests →
+    query.count ≤ length query.tests → (place : ℕ) → first_line (lines_for_all file place (tests_of query)) ≡ none →
+    Judged file shape query
+judged file shape query opened few there place none_answers =
     record {
       opened = opened;
       few = few;
@@ -106,8 +108,8 @@ judged file shape tests count opened few there place none_answers =
       literals = λ t h. (fits t h).literal;
     }
   where
-    fits : (t : ℕ) → t < count → FitTest file (test_at tests t)
+    fits : (t : ℕ) → t < query.count → FitTest file (test_at query.tests t)
     fits t h =
-        let inside : t < length (take count tests) = rw (length-take-le count tests there) h in
-        rw (get_or-take count tests t empty_slot h) at
-        (each_test_fits file place (take count tests) none_answers _ (at_is_member (take count tests) t empty_slot inside))
+        let inside : t < length (tests_of query) = rw (length-take-le query.count query.tests there) h in
+        rw (get_or-take query.count query.tests t empty_slot h) at
+        (each_test_fits file place (tests_of query) none_answers _ (at_is_member (tests_of query) t empty_slot inside))

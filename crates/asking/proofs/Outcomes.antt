@@ -15,7 +15,7 @@ use lib.Dec.{ltb}
 use Rattle.limits.specs.Limits.{most_tests}
 use Rattle.basis.specs.Refusals.{Line, refuse, first_line}
 use Rattle.basis.proofs.Refusals.{Past, passes, stops}
-use Rattle.std.specs.Prelude.{Result, Ok, Err}
+use Rattle.std.specs.Prelude.{Ok, Err}
 use Rattle.refusals.specs.declared.Refusal.{Refusal}
 use Rattle.refusals.specs.declared.Refusal.TheVariants.{TooManyTests, UnfitSegmentSize}
 use Rattle.answers.proofs.Replies.{answer_refused, answer_accepted, told_is_accepted, refusal_told}

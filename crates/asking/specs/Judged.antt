@@ -6,18 +6,13 @@ use Rattle.register.specs.declared.Shape.{Shape}
 use Rattle.std.specs.Prelude.{Ok}
 use Rattle.directory.specs.File.{width_in}
 use Rattle.register.specs.Opening.{opened_of}
-use Rattle.query.specs.declared.Test.{Test}
 use Rattle.query.specs.declared.Query.{Query}
 use Rattle.query.specs.Tests.{literal_of, test_at}
 
 -- a query as it has been judged: the file opened, and every test fits it
-pub record Judged (file : List ℕ) (shape : Shape) (tests : List Test) (count : ℕ) : Type 0 where
+pub record Judged (file : List ℕ) (shape : Shape) (query : Query) : Type 0 where
   pub opened : opened_of file ≡ Ok shape
-  pub few : count ≤ most_tests
-  pub columns : (t : ℕ) → t < count → (test_at tests t).column < shape.columns
-  pub literals : (t : ℕ) → t < count →
-      too_large (width_in file (test_at tests t).column) (literal_of (test_at tests t).comparison) ≡ false
-
--- a query, by its slots
-abbrev pub asked : List Test → ℕ → Query
-asked tests count = record { count = count; tests = tests }
+  pub few : query.count ≤ most_tests
+  pub columns : (t : ℕ) → t < query.count → (test_at query.tests t).column < shape.columns
+  pub literals : (t : ℕ) → t < query.count →
+      too_large (width_in file (test_at query.tests t).column) (literal_of (test_at query.tests t).comparison) ≡ false

@@ -3,24 +3,24 @@
 
 #![tactic(auto)]
 
-ghost use Rattle.std.specs.Prelude.{◌≡◌, false, Ok};
+ghost use Rattle.std.specs.Prelude.{◌≡◌, ◌≤◌, false, Ok};
 ghost use Rattle.register.specs.declared.Shape.{Shape};
-ghost use Rattle.register.specs.Opening.{opened_of};
+ghost use Rattle.limits.specs.Limits.{most_tests};
 ghost use Rattle.asking.specs.Sizes.{unfit_size};
 ghost use Rattle.asking.specs.Refusals.{lines_for, asked_of};
-ghost use Rattle.asking.specs.Verdicts.{verdict_of, ToJudge, TestsJudged};
+ghost use Rattle.asking.specs.Verdicts.{verdict_of, TestsJudged};
 ghost use Rattle.asking.specs.Judged.{Judged};
 
 use limits::{LONGEST_SEGMENT, MOST_TESTS};
 use query::{Query, Test};
 use refusals::Refusal;
-use register::Shape;
+use register::{Register, Shape};
 
 // Holds a query to a file: the file's rows and columns where the query fits it, or the first refusal.
 pub fn ask(file: &[u8], size: usize, query: Query) -> Result<Shape, Refusal>
     ensures answer { result ≡ asked_of file.now size query }
     ensures fit { (shape : Shape) → result ≡ Ok shape →
-        Judged file.now shape query.tests query.count × (unfit_size size ≡ false) }
+        Judged file.now shape query × (unfit_size size ≡ false) }
 {
     let shape = register::open(file)?;
     if unfit_size(size) {
@@ -29,7 +29,8 @@ pub fn ask(file: &[u8], size: usize, query: Query) -> Result<Shape, Refusal>
     if MOST_TESTS < query.count {
         return Err(Refusal::TooManyTests);
     }
-    judge_tests(file, shape, query.tests, query.count)?;
+    let register = Register { file, shape };
+    judge_tests(&register, query)?;
     Ok(shape)
 }
 
@@ -43,33 +44,28 @@ pub fn unfit_size(size: usize) -> bool
     }
 }
 
-// Holds the tests to an opened file in turn, and ends at the first that does not fit.
-pub fn judge_tests(
-    file: &[u8],
-    shape: Shape,
-    tests: [Test; MOST_TESTS],
-    count: usize,
-) -> Result<(), Refusal>
-    requires { ToJudge file.now shape count }
-    ensures { TestsJudged file.now shape tests count result }
+// Holds the tests to an opened file in turn, and ends at the first that does not fit. The query is taken
+// by value: of an array in a struct behind a reference a proof knows no length.
+pub fn judge_tests(register: &Register<'_>, query: Query) -> Result<(), Refusal>
+    requires { query.count ≤ most_tests }
+    ensures { TestsJudged register.now.file.now register.now.shape query result }
 {
-    for t in 0..count {
-        judge_test(file, shape, tests[t], t)?;
+    for t in 0..query.count {
+        judge_test(register, query.tests[t], t)?;
     }
     Ok(())
 }
 
 // Holds a test to an opened file, under its place: first by its column, then by its literal.
-pub fn judge_test(file: &[u8], shape: Shape, test: Test, place: usize) -> Result<(), Refusal>
-    requires { opened_of file.now ≡ Ok shape }
-    ensures { result ≡ verdict_of (lines_for file.now place test) }
+pub fn judge_test(register: &Register<'_>, test: Test, place: usize) -> Result<(), Refusal>
+    ensures { result ≡ verdict_of (lines_for register.now.file.now place test) }
 {
     let column = test.column;
-    if shape.columns <= column {
+    if register.shape.columns <= column {
         return Err(Refusal::NoSuchColumn(place));
     }
     let literal = query::literal_of(test.comparison);
-    if codes::too_large(register::width_at(file, shape, column), literal) {
+    if codes::too_large(register.width(column), literal) {
         return Err(Refusal::LiteralTooLarge(place));
     }
     Ok(())

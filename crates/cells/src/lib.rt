@@ -4,20 +4,19 @@
 
 ghost use Rattle.std.specs.Prelude.{◌≡◌, ◌<◌, length, get_or};
 ghost use Rattle.codes.specs.Bytes.{joined};
-ghost use Rattle.register.specs.Cells.{code_at};
-ghost use Rattle.register.specs.Columns.{CellThere};
+ghost use Rattle.register.specs.Cells.{CellThere, code_at};
 ghost use Rattle.cells.specs.Gathered.{CodeWithin, place, gathered};
 
-use register::Shape;
+use register::Register;
 
-// The code of a row in a column of a file that opened as the shape.
-pub fn code_at(file: &[u8], shape: Shape, column: usize, row: usize) -> u64
-    requires { CellThere file.now shape column row }
-    ensures { result ≡ code_at file.now column row }
+// The code of a row in a column of a register.
+pub fn code_at(register: &Register<'_>, column: usize, row: usize) -> u64
+    requires { CellThere register.now column row }
+    ensures { result ≡ code_at register.now.file.now column row }
 {
-    let width = register::width_at(file, shape, column);
-    let offset = register::offset_at(file, shape, column);
-    code_of(file, width, offset, shape.rows, row)
+    let width = register.width(column);
+    let offset = register.offset(column);
+    code_of(register.file, width, offset, register.shape.rows, row)
 }
 
 // The code of a row: its bytes are gathered from the slices of a column that starts at the offset. Each

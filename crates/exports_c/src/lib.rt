@@ -1,5 +1,5 @@
 // The calls of exports by their C names, for a static library. A slice passes as a pointer and a length, a reply as a pointer to
-// so many numbers of 64 bits.
+// so many numbers of 64 bits. They repeat those of exports, since an archive for C has these names alone and a crate calls by its paths.
 #![tactic(auto)]
 
 ghost use Rattle.std.specs.Prelude.{◌≡◌, length};

@@ -1,26 +1,13 @@
 -- What the steps of writing a file know, and what they count. Assumes nothing.
-use Rattle.std.specs.Prelude.{ℕ, ◌+◌, ◌*◌, ◌≤◌, ◌≡◌, List, length}
-use Rattle.limits.specs.Limits.{most_rows, most_columns, most_slices, entry_bytes}
+use Rattle.std.specs.Prelude.{ℕ, ◌*◌, ◌≤◌, ◌≡◌, List, length}
+use Rattle.limits.specs.Limits.{most_rows, most_columns, most_slices}
 use Rattle.directory.specs.Layout.{slices_before, bytes_before}
-use Rattle.table.specs.Table.{width_of, FitWidths, FitCodes}
-use Rattle.filing.specs.Layout.{file_length}
+use Rattle.table.specs.Table.{width_of, FitWidths}
 
 -- widths that a register may have, and no more rows than it may have
 pub record FitShape (rows : ℕ) (widths : List ℕ) : Type 0 where
   pub fit_widths : FitWidths widths
   pub few_rows : rows ≤ most_rows
-
--- a table that a register may hold, and room for its file
-pub record FitFile (rows : ℕ) (widths codes out : List ℕ) : Type 0 where
-  pub fit_widths : FitWidths widths
-  pub fit_codes : FitCodes rows widths codes
-  pub room : file_length rows widths ≤ length out
-
--- widths and rows of a register, and room for its directory from a place on
-pub record DirectoryFits (rows : ℕ) (widths out : List ℕ) (at : ℕ) : Type 0 where
-  pub fit_widths : FitWidths widths
-  pub few_rows : rows ≤ most_rows
-  pub room : at + entry_bytes * length widths ≤ length out
 
 -- the slices of all columns, which are few
 pub record SlicesCounted (widths : List ℕ) (slices : ℕ) : Type 0 where

@@ -2,29 +2,30 @@
 
 #![tactic(auto)]
 
-ghost use Rattle.std.specs.Prelude.{◌≡◌, ◌+◌, ◌≤◌, length};
+ghost use Rattle.std.specs.Prelude.{◌≡◌, ◌+◌, ◌*◌, ◌≤◌, length};
 ghost use Rattle.basis.specs.Buffers.{laid};
 ghost use Rattle.basis.specs.Numbers.{to_little};
 ghost use Rattle.limits.specs.Limits.{entry_bytes, trailer_bytes};
 ghost use Rattle.table.specs.Table.{FitWidths};
 ghost use Rattle.filing.specs.Layout.{entry_with, directory_of, trailer_with, file_length, file_of};
-ghost use Rattle.filing.specs.Steps.{FitShape, FitFile, DirectoryFits, SlicesCounted, BytesCounted};
+ghost use Rattle.filing.specs.Steps.{FitShape, SlicesCounted, BytesCounted};
 
 use limits::{ENTRY_BYTES, TRAILER_BYTES};
+use table::Table;
 
 // Writes body, directory and trailer to the front of `out`.
-pub fn write_file(rows: usize, widths: &[u8], codes: &[u64], out: &mut [u8])
-    requires { FitFile rows widths.now codes.now out.old }
-    ensures { out.new ≡ laid out.old 0 (file_of rows widths.now codes.now) }
+pub fn write_file(table: &Table<'_>, out: &mut [u8])
+    requires { file_length table.now.rows table.now.widths.now ≤ length out.old }
+    ensures { out.new ≡ laid out.old 0 (file_of table.now.rows table.now.widths.now table.now.codes.now) }
 {
-    let columns = widths.len();
-    let body = body_length(rows, widths);
-    slicing::write_body(rows, widths, codes, out);
-    write_directory(rows, widths, out, body);
-    write_trailer(rows, columns, body, out, body + ENTRY_BYTES * columns);
+    let columns = table.widths.len();
+    let body = body_length(table.rows, table.widths);
+    slicing::write_body(table, out);
+    write_directory(table, out, body);
+    write_trailer(table.rows, columns, body, out, body + ENTRY_BYTES * columns);
 }
 
-// How many bytes the file has.
+// How many bytes the file has. It takes no `Table`: a caller may ask it before there are codes.
 pub fn file_length(rows: usize, widths: &[u8]) -> usize
     requires { FitShape rows widths.now }
     ensures { result ≡ file_length rows widths.now }
@@ -53,13 +54,13 @@ fn slices_in(widths: &[u8]) -> usize
 }
 
 // Writes the directory from a place on: an entry a column.
-fn write_directory(rows: usize, widths: &[u8], out: &mut [u8], at: usize)
-    requires { DirectoryFits rows widths.now out.old at }
-    ensures { out.new ≡ laid out.old at (directory_of rows widths.now) }
+fn write_directory(table: &Table<'_>, out: &mut [u8], at: usize)
+    requires { at + entry_bytes * length table.now.widths.now ≤ length out.old }
+    ensures { out.new ≡ laid out.old at (directory_of table.now.rows table.now.widths.now) }
 {
     let mut slices: usize = 0;
-    for (column, width) in widths.iter().enumerate() {
-        write_entry(*width, rows * slices, out, at + ENTRY_BYTES * column);
+    for (column, width) in table.widths.iter().enumerate() {
+        write_entry(*width, table.rows * slices, out, at + ENTRY_BYTES * column);
         slices += codes::slices_of(*width);
     }
 }

@@ -16,7 +16,6 @@ use Rattle.answers.proofs.Replies.{told_is_accepted, answer_refused}
 use Rattle.limits.specs.Limits.{most_rows}
 use Rattle.register.specs.declared.Shape.{Shape}
 use Rattle.register.proofs.Fit.{opened_is_fit, few_rows_as_opened}
-use Rattle.query.specs.declared.Query.{Query}
 use Rattle.text.specs.declared.Asked.{Asked}
 use Rattle.asking.specs.Refusals.{asked_of}
 use Rattle.asking.proofs.Asked.{opened_as_asked}

@@ -8,7 +8,7 @@ ghost use Rattle.std.specs.Prelude.{Ok};
 use limits::{MOST_BITS, MOST_TESTS};
 use query::Query;
 use refusals::Refusal;
-use register::Shape;
+use register::{Register, Shape};
 use text::Asked;
 
 // What a listing shows: the register's shape, how many rows match, how many bytes each test needed, and
@@ -35,7 +35,8 @@ fn find_rows(file: &[u8], asked: Asked, bits: &mut [u8; MOST_BITS]) -> Result<Fo
 {
     let query = asked.query;
     let shape = asking::ask(file, asked.size, query)?;
-    let scanned = scan::scan_rows(file, shape, asked.size, query.tests, query.count, bits);
+    let register = Register { file, shape };
+    let scanned = scan::scan_rows(&register, asked.size, query, bits);
     let counts = scanned.counts;
     Ok(Found {
         shape,

@@ -1,47 +1,30 @@
 -- What is found of inputs, by whether both are taken, and what is printed of that. Assumes nothing.
---   file_unread, text_unread    18, for the file or for the text
---   both_read                   what the listing of the two shows
+--   bytes_or_none               an input's bytes, or none where it was not taken
 --   told_18                     what is listed then is its line
 --   listed_of_inputs            a piece of what was found is a piece of what is printed
 --   length_of_inputs            and is as long in all
 --   inputs_can_be_listed        and can be written
 use Prim.Native.Nat.{ℕ}
 use mathlib.Core.Path.{◌≡◌, refl, sym, ap, subst, ◌∙◌}
-use mathlib.Core.List.{List}
-use mathlib.Core.Bool.{Bool, true, false, ◌||◌, true≢false}
+use mathlib.Core.List.{List, []}
+use mathlib.Core.Bool.{Bool, true, false}
 use lib.ListN.{length}
 use Rattle.pieces.specs.Pieces.{PieceWritten}
 use Rattle.lines.specs.Lines.{refused_line}
-use Rattle.std.specs.Prelude.{Result, Err}
+use Rattle.std.specs.Prelude.{Option, Some, None, Result, Err, unwrap_or}
+use Rattle.std.specs.Borrow.{Bor}
 use Rattle.refusals.specs.declared.Refusal.{Refusal}
 use Rattle.refusals.specs.declared.Refusal.TheVariants.{InputNotTaken}
 use Rattle.finding.specs.declared.Found.{Found}
-use Rattle.finding.specs.Finding.{FoundIn}
 use Rattle.listing.specs.Found.{Listable, found_lines}
-use Rattle.listing.specs.Inputs.{FoundRead, ListedRead, PrintLength}
+use Rattle.listing.specs.Inputs.{bytes_of, FoundRead, ListedRead, PrintLength}
 use Rattle.listing.proofs.FoundListing.{same_listing, can_be_listed, listed_in}
 
-module _ (first second : Bool) (file text before after : List ℕ) (found : Result Found Refusal) where
-  -- 18, and nothing else
-  abbrev Told : Type 0
-  Told = (found ≡ Err InputNotTaken) × (after ≡ before)
-
-  -- one that is not taken
-  unread : first || second ≡ true → Told → FoundRead (first || second) file text before after found
-  unread is told = record { refused = λ _. told; listed = λ taken. absurd (true≢false (sym is ∙ taken)) }
-
-  pub file_unread : first ≡ true → Told → FoundRead (first || second) file text before after found
-  file_unread is = unread (rw is)
-
-  pub text_unread : first ≡ false → second ≡ true → Told → FoundRead (first || second) file text before after found
-  text_unread known is = unread (rw (known, is))
-
-  pub both_read : first ≡ false → second ≡ false → FoundIn file text before after found →
-      FoundRead (first || second) file text before after found
-  both_read known given made = record {
-    refused = λ not_taken. absurd (true≢false (sym not_taken ∙ rw (known, given)));
-    listed = λ _. made;
-  }
+-- an empty slice stands for one that was not taken
+pub bytes_or_none : (input : Option (Bor (List ℕ))) (empty : Bor (List ℕ)) {bytes : Bor (List ℕ)} →
+    bytes ≡ unwrap_or input empty → empty.now ≡ [] → bytes.now ≡ bytes_of input
+bytes_or_none (Some taken) empty is none = ap (λ bytes. bytes.now) is
+bytes_or_none None empty is none = ap (λ bytes. bytes.now) is ∙ none
 
 module _ (file text filled bits : List ℕ) (found : Result Found Refusal) where
   pub told_18 : found ≡ Err InputNotTaken → found_lines file bits found ≡ refused_line InputNotTaken

@@ -12,7 +12,6 @@ use Prim.Native.Nat.{ℕ}
 use mathlib.Core.Path.{◌≡◌, refl, sym, ◌∙◌}
 use mathlib.Core.List.{List}
 use mathlib.Core.Bool.{Bool, true, false}
-use lib.ListN.{length}
 use Rattle.text.proofs.SingleReply.{single_reply}
 use Rattle.pieces.specs.Pieces.{PieceWritten}
 use Rattle.lines.specs.Lines.{refused_line}
@@ -22,7 +21,7 @@ use Rattle.refusals.specs.declared.Refusal.{Refusal}
 use Rattle.refusals.specs.declared.Refusal.TheVariants.{InputNotTaken}
 use Rattle.finding.specs.declared.Found.{Found}
 use Rattle.listing.specs.Found.{found_lines}
-use Rattle.listing.specs.Inputs.{unread_inputs, FoundRead, ListedRead}
+use Rattle.listing.specs.Inputs.{bytes_of, unread_of, FoundRead, ListedRead}
 use Rattle.listing.proofs.write.Reads.{Post as Writes}
 use Rattle.listing.proofs.write_read.Reads.{Post as WritesInputs}
 use Rattle.finding.proofs.SingleReply.{one_found}
@@ -61,15 +60,14 @@ one_write κs lent answer number exit exit' first second = one_listing _ _ _ _ _
 
 pub one_write_of_inputs : (κs : _) (lent : _) (answer number : ℕ) (exit exit' : _) →
     WritesInputs κs lent answer exit → WritesInputs κs lent number exit' →
-    (exit.1.1.1.1.1.0.now ≡ exit'.1.1.1.1.1.0.now) × (answer ≡ number)
+    (exit.1.1.1.0.now ≡ exit'.1.1.1.0.now) × (answer ≡ number)
 one_write_of_inputs κs lent answer number exit exit' first second =
-    let file = lent.1.0.now in
-    let text = lent.1.1.1.0.now in
-    let unread = unread_inputs lent.0 (length file) lent.1.1.0 (length text) in
-    one_print file text _ _ _ _ answer number unread first second
+    let file = lent.0 in
+    let text = lent.1.0 in
+    one_print (bytes_of file) (bytes_of text) _ _ _ _ answer number (unread_of file text) first second
 
 pub one_prepare : (κs : _) (lent : _) (found again : Result Found Refusal) (exit exit' : _) → Prepares κs lent found exit → Prepares κs lent again exit' →
-    (found ≡ again) × (exit.1.1.1.1.0.now ≡ exit'.1.1.1.1.0.now)
+    (found ≡ again) × (exit.1.1.0.now ≡ exit'.1.1.0.now)
 one_prepare κs lent found again exit exit' first second = one_found_read _ _ _ _ first second
 
 pub one_write_of_found : (κs : _) (lent : _) (answer number : ℕ) (exit exit' : _) → WritesFound κs lent answer exit →

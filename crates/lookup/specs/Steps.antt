@@ -1,7 +1,6 @@
 -- What the steps of the lookup know and say of the numbers of a list. Assumes nothing.
-use Rattle.std.specs.Prelude.{ℕ, ◌<◌, ◌≤◌, ◌≡◌, List, length, get_or, Ok}
-use Rattle.register.specs.declared.Shape.{Shape}
-use Rattle.register.specs.Opening.{opened_of}
+use Rattle.std.specs.Prelude.{ℕ, ◌<◌, ◌≤◌, List, length, get_or}
+use Rattle.register.specs.declared.Register.{Register}
 
 -- every listed number is below a bound
 abbrev pub AllBelow : ℕ → List ℕ → Type 0
@@ -17,9 +16,8 @@ pub record IsFirstMissing (bound : ℕ) (list : List ℕ) (i : ℕ) : Type 0 whe
 abbrev pub NoneAbove : ℕ → List ℕ → Type 0
 NoneAbove bound list = (i : ℕ) → i < length list → get_or list i 0 ≤ bound
 
--- the file opened as the shape, has the column and every listed row, and the output has room for their codes
-pub record ToLookUp (file : List ℕ) (shape : Shape) (column : ℕ) (list out : List ℕ) : Type 0 where
-  pub opened : opened_of file ≡ Ok shape
-  pub column_there : column < shape.columns
-  pub rows_there : AllBelow shape.rows list
+-- the register has the column and every listed row, and the output has room for their codes
+pub record ToLookUp (register : Register) (column : ℕ) (list out : List ℕ) : Type 0 where
+  pub column_there : column < register.shape.columns
+  pub rows_there : AllBelow register.shape.rows list
   pub room : length list ≤ length out

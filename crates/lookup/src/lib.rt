@@ -9,7 +9,7 @@ ghost use Rattle.lookup.specs.Steps.{AllBelow, IsFirstMissing, NoneAbove, ToLook
 ghost use Rattle.lookup.specs.LookingUp.{codes_of, looked_up_of, shown_for, left_in};
 
 use refusals::Refusal;
-use register::Shape;
+use register::Register;
 
 // Writes the code that each listed row has in a column to the front of `out`. Refused, it changes
 // nothing.
@@ -19,6 +19,7 @@ pub fn look_up(file: &[u8], column: usize, rows: &[u32], out: &mut [u64]) -> Res
     ensures left { out.new ≡ left_in file.now column rows.now out.old }
 {
     let shape = register::open(file)?;
+    let register = Register { file, shape };
     if shape.columns <= column {
         return Err(Refusal::NoSuchColumn(0));
     }
@@ -28,7 +29,7 @@ pub fn look_up(file: &[u8], column: usize, rows: &[u32], out: &mut [u64]) -> Res
     if out.len() < rows.len() {
         return Err(Refusal::OutputTooShort(rows.len()));
     }
-    write_codes(file, shape, column, rows, out);
+    write_codes(&register, column, rows, out);
     Ok(rows.len())
 }
 
@@ -51,13 +52,14 @@ fn greatest_of(list: &[u32]) -> u32
 }
 
 // Writes the code of each listed row to the front, one for each.
-fn write_codes(file: &[u8], shape: Shape, column: usize, list: &[u32], out: &mut [u64])
-    requires { ToLookUp file.now shape column list.now out.old }
-    ensures { out.new ≡ laid out.old 0 (codes_of file.now column list.now) }
+fn write_codes(register: &Register<'_>, column: usize, list: &[u32], out: &mut [u64])
+    requires { ToLookUp register.now column list.now out.old }
+    ensures { out.new ≡ laid out.old 0 (codes_of register.now.file.now column list.now) }
 {
-    let width = register::width_at(file, shape, column);
-    let offset = register::offset_at(file, shape, column);
-    let rows = shape.rows;
+    let file = register.file;
+    let width = register.width(column);
+    let offset = register.offset(column);
+    let rows = register.shape.rows;
     for (i, row) in list.iter().enumerate() {
         out[i] = cells::code_of(file, width, offset, rows, *row as usize);
     }

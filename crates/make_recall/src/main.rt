@@ -65,6 +65,7 @@ fn code_of(row: u64, column: usize) -> u64
     }
 }
 
+// This and the next differ in numbers alone. Each says its rule in a line, which one function of five numbers would not.
 // A lot is good for forty pickups. Two in eleven still get a crystal of the lot before.
 fn lot_of(row: u64) -> u64
     ensures { result ≡ lot_of row }

@@ -31,6 +31,12 @@ pub record Wrote (word : List ℕ) (before after : Piece) : Type 0 where
   pub written : after.out.now ≡ write_at before.out.now before.from before.at word
   pub behind : after.at ≡ before.at + length word
 
+-- a piece that begins with a word: it was begun, and the word was written
+pub record Begins (word : List ℕ) (out : MutBor (List ℕ)) (from : ℕ) (piece : Piece) : Type 0 where
+  pub begun : Piece
+  pub from_nothing : Begun out from begun
+  pub wrote : Wrote word begun piece
+
 -- and that the place behind it is not past an end
 pub record WroteUpTo (end : ℕ) (word : List ℕ) (before after : Piece) : Type 0 where
   pub wrote : Wrote word before after

@@ -30,7 +30,7 @@ all_by (Err cut) = cut.all
 pub record PieceOf (listing : List ℕ) (from : ℕ) (before after : List ℕ) (piece : Result Piece CutShort) : Type 0 where
   pub made : PieceWritten listing from before after (all_by piece)
   pub taken : MatchResult piece (λ piece. piece.put ≡ min (length after) (piece.all - from))
-      (λ cut. cut.written < from + min (length after) (cut.all - from))
+      (λ cut. (from ≤ cut.written) × (cut.written < from + min (length after) (cut.all - from)))
 
 -- there is a buffer to print by, and what was taken of either input stands in what was lent for it
 pub record InputsTaken (out : List ℕ) (taken : Option ℕ) (file : List ℕ) (given : Option ℕ) (text : List ℕ) : Type 0 where

@@ -5,7 +5,7 @@
 ghost use Rattle.std.specs.Prelude.{◌≡◌, ◌<◌, is_some, length, take};
 ghost use Rattle.files.specs.Taking.{count_of};
 ghost use Rattle.listing.specs.Found.{Listable, found_lines};
-ghost use Rattle.listing.specs.Inputs.{unread_inputs};
+ghost use Rattle.listing.specs.Inputs.{bytes_of, unread_inputs, unread_of};
 ghost use Rattle.printing.specs.Printing.{refused_file, TextTaken, PieceOf, PrintedOf};
 ghost use Rattle.printing.specs.Printing.{InputsTaken, FoundPrintable, FoundPrinted, PartsListed};
 
@@ -62,15 +62,9 @@ fn print_taken<R: Clock, W: Write>(
     ensures { PrintedOf (unread_inputs (is_some taken) (count_of taken) (is_some given) (count_of given))
         (take (count_of taken) file.now) (take (count_of given) text.now) result }
 {
-    print_listing(
-        rt,
-        output,
-        taken.is_some(),
-        &file[..taken.unwrap_or(0)],
-        given.is_some(),
-        &text[..given.unwrap_or(0)],
-        out,
-    )
+    let file = taken.map(|n| &file[..n]);
+    let text = given.map(|n| &text[..n]);
+    print_listing(rt, output, file, text, out)
 }
 
 // The text on the input; where the file is refused, nothing is waited for.
@@ -87,25 +81,23 @@ fn take_text<I: Read>(input: &mut I, taken: Option<usize>, text: &mut [u8]) -> O
 fn is_refused(taken: Option<usize>) -> bool
     ensures { result ≡ refused_file taken }
 {
-    listing::unread(taken.is_some(), taken.unwrap_or(0), MOST_FILE)
+    taken.is_none_or(|n| MOST_FILE < n)
 }
 
 // Finds what the listing of the two inputs shows, once, and prints it.
 fn print_listing<R: Clock, W: Write>(
     rt: &R,
     output: &mut W,
-    taken: bool,
-    file: &[u8],
-    given: bool,
-    text: &[u8],
+    file: Option<&[u8]>,
+    text: Option<&[u8]>,
     out: &mut [u8],
 ) -> Result<usize, CutShort>
     requires { 0 < length out.old }
-    ensures { PrintedOf (unread_inputs taken (length file.now) given (length text.now))
-        file.now text.now result }
+    ensures { PrintedOf (unread_of file.entry text.entry) (bytes_of file.entry) (bytes_of text.entry) result }
 {
     let mut bits = [0u8; MOST_BITS];
-    let found = listing::prepare(taken, file, given, text, &mut bits);
+    let found = listing::prepare(file, text, &mut bits);
+    let file = file.unwrap_or(&[]);
     print_found(rt, output, file, found, &bits, out)
 }
 

@@ -3,11 +3,11 @@
 
 #![tactic(auto)]
 
-ghost use Rattle.std.specs.Prelude.{◌≡◌};
+ghost use Rattle.std.specs.Prelude.{◌≡◌, ◌<◌, Ok};
 ghost use Rattle.directory.specs.File.{width_in, offset_in};
 ghost use Rattle.register.specs.Answers.{shown_of};
 ghost use Rattle.register.specs.Opening.{opened_of, shown_for};
-ghost use Rattle.register.specs.Columns.{ColumnThere, EntryRead};
+ghost use Rattle.register.specs.Columns.{EntryRead};
 
 use limits::{ENTRY_BYTES, MOST_COLUMNS, MOST_ROWS, TRAILER_BYTES};
 use refusals::Refusal;
@@ -60,31 +60,42 @@ pub fn open(file: &[u8]) -> Result<Shape, Refusal>
     })
 }
 
-// The width of a column of an opened file, from its directory.
-pub fn width_at(file: &[u8], shape: Shape, column: usize) -> u8
-    requires { ColumnThere file.now shape column }
-    ensures { result ≡ width_in file.now column }
-{
-    let found = entry_of(file, shape, column);
-    found[0]
+// A file that opened, with what opening told of it.
+#[derive(Clone, Copy)]
+pub struct Register<'a> {
+    pub file: &'a [u8],
+    pub shape: Shape,
+    ghost opened: { opened_of file.now ≡ Ok shape },
 }
 
-// Where slice 1 of a column of an opened file starts, from its directory.
-pub fn offset_at(file: &[u8], shape: Shape, column: usize) -> usize
-    requires { ColumnThere file.now shape column }
-    ensures { result ≡ offset_in file.now column }
-{
-    let found = entry_of(file, shape, column);
-    numbers::number_of(&found[4..8])
-}
+impl<'a> Register<'a> {
+    // The width of a column, from the directory.
+    pub fn width(&self, column: usize) -> u8
+        requires { column < self.now.shape.columns }
+        ensures { result ≡ width_in self.now.file.now column }
+    {
+        let found = self.entry(column);
+        found[0]
+    }
 
-// The directory's 8 bytes for a column of an opened file.
-fn entry_of(file: &[u8], shape: Shape, column: usize) -> &[u8]
-    requires { ColumnThere file.now shape column }
-    ensures { EntryRead file.now column result.now }
-{
-    let columns = shape.columns;
-    let from = file.len() - TRAILER_BYTES - ENTRY_BYTES * (columns - column);
-    let to = from + ENTRY_BYTES;
-    &file[from..to]
+    // Where slice 1 of a column starts, from the directory.
+    pub fn offset(&self, column: usize) -> usize
+        requires { column < self.now.shape.columns }
+        ensures { result ≡ offset_in self.now.file.now column }
+    {
+        let found = self.entry(column);
+        numbers::number_of(&found[4..8])
+    }
+
+    // The directory's 8 bytes for a column.
+    fn entry(&self, column: usize) -> &'a [u8]
+        requires { column < self.now.shape.columns }
+        ensures { EntryRead self.now.file.now column result.now }
+    {
+        let file = self.file;
+        let columns = self.shape.columns;
+        let from = file.len() - TRAILER_BYTES - ENTRY_BYTES * (columns - column);
+        let to = from + ENTRY_BYTES;
+        &file[from..to]
+    }
 }

@@ -60,7 +60,7 @@ fn asked_reply(asked: Asked) -> [u64; READ_NUMBERS]
     reply
 }
 
-// Comparisons are numbered in the order < <= > >= = !=.
+// Comparisons are numbered in the order < <= > >= = !=, as C is told them.
 fn kind_of(comparison: Comparison) -> u64
     ensures { result ≡ kind_of comparison }
 {

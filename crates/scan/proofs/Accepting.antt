@@ -20,7 +20,7 @@ use Rattle.codes.proofs.Width.{some_slice}
 use Rattle.std.specs.Prelude.{Result, Ok}
 use Rattle.refusals.specs.declared.Refusal.{Refusal}
 use Rattle.answers.proofs.Replies.{answer_accepted}
-use Rattle.directory.specs.File.{rows_in, columns_in, width_in}
+use Rattle.directory.specs.File.{width_in}
 use Rattle.register.specs.Opening.{shape_in, opened_of}
 use Rattle.register.proofs.Fit.{width_as_opened}
 use Rattle.query.specs.declared.Test.{Test}

@@ -22,6 +22,7 @@ use Rattle.basis.proofs.Members.{sum_each_same, sum_mapped}
 use Rattle.basis.proofs.Runs.{within_or_past, in_below, sum_ends, taken_by_number}
 use Rattle.directory.specs.File.{rows_in}
 use Rattle.query.specs.declared.Test.{Test}
+use Rattle.query.specs.declared.Query.{Query}
 use Rattle.limits.specs.Limits.{most_tests}
 use Rattle.query.specs.Tests.{empty_slot, test_at, slots_of}
 use Rattle.query.proofs.Slots.{length_filled, filled_at, filled_after}
@@ -32,7 +33,6 @@ use Rattle.scan.specs.declared.Scanned.{Scanned}
 use Rattle.asking.specs.AtFile.{widened, tests_in, bytes_in, segments_in}
 use Rattle.bits.specs.Bits.{bits_of}
 use Rattle.scan.specs.Answers.{accepted, found_bits}
-use Rattle.asking.specs.Judged.{asked}
 use Rattle.asking.proofs.Sizes.{Eighths}
 use Rattle.scan.proofs.SegmentSums.{found_in, counted_in_all}
 use Rattle.scan.proofs.RowsSoFar.{SoFar}
@@ -66,57 +66,58 @@ sum_of_slots f tests many counts there few each rest =
     ∙ sym (sum_mapped f (test_at tests) (below many))
     ∙ ap (sum f) (sym (taken_by_number tests many empty_slot there))
 
-module _ (file : List ℕ) (tests : List Test) (many size rows : ℕ) (same_rows : rows ≡ rows_in file) (sized : Eighths size)
-    (few : many ≤ most_tests) (there : many ≤ length tests) (before result counts : List ℕ) (matched first : ℕ)
-    (far : SoFar file tests many size rows before result counts matched first) (ended : rows ≤ first) where
+module _ (file : List ℕ) (query : Query) (size rows : ℕ) (same_rows : rows ≡ rows_in file) (sized : Eighths size)
+    (few : query.count ≤ most_tests) (there : query.count ≤ length query.tests) (before result counts : List ℕ) (matched first : ℕ)
+    (far : SoFar file query size rows before result counts matched first) (ended : rows ≤ first) where
   -- the first row that is left is past the last
   at_the_end : first ≡ rows_in file
   at_the_end = omega (arith, far.reached)
 
   -- what a test counts
   abbrev count_of : ColumnTest → ℕ
-  count_of test = count comparing (bytes_in file) (tests_in file (asked tests many)) test (segments_in file size)
+  count_of test = count comparing (bytes_in file) (tests_in file query) test (segments_in file size)
 
-  each_count : (t : ℕ) → t < many → get_or counts t 0 ≡ count_of (widened file (test_at tests t))
+  each_count : (t : ℕ) → t < query.count → get_or counts t 0 ≡ count_of (widened file (test_at query.tests t))
   each_count t h =
       far.counted t h
-      ∙ counted_in_all file tests many size rows sized.some t far.done (omega (arith, far.reached))
+      ∙ counted_in_all file query size rows sized.some t far.done (omega (arith, far.reached))
       ∙ ap
-      (λ (n : ℕ). count comparing (bytes_in file) (tests_in file (asked tests many)) (widened file (test_at tests t)) (segments size n))
+      (λ (n : ℕ). count comparing (bytes_in file) (tests_in file query) (widened file (test_at query.tests t)) (segments size n))
       same_rows
 
-  length_tests : length (tests_in file (asked tests many)) ≡ many
-  length_tests = length-map (take many tests) (widened file) ∙ length-take-le many tests there
+  length_tests : length (tests_in file query) ≡ query.count
+  length_tests = length-map (take query.count query.tests) (widened file) ∙ length-take-le query.count query.tests there
 
-  numbers_in_place : (t : ℕ) → t < many → get_or (map count_of (tests_in file (asked tests many))) t 0 ≡ count_of (widened file (test_at tests t))
+  numbers_in_place : (t : ℕ) → t < query.count →
+      get_or (map count_of (tests_in file query)) t 0 ≡ count_of (widened file (test_at query.tests t))
   numbers_in_place t h =
-      mapped_in_place count_of (tests_in file (asked tests many)) t (widened file empty_slot) 0 (omega (arith, length_tests))
+      mapped_in_place count_of (tests_in file query) t (widened file empty_slot) 0 (omega (arith, length_tests))
       ∙ ap count_of
-      (mapped_in_place (widened file) (take many tests) t empty_slot (widened file empty_slot)
-      (omega (arith, length-take-le many tests there))
-      ∙ ap (widened file) (get_or-take many tests t empty_slot h))
+      (mapped_in_place (widened file) (take query.count query.tests) t empty_slot (widened file empty_slot)
+      (omega (arith, length-take-le query.count query.tests there))
+      ∙ ap (widened file) (get_or-take query.count query.tests t empty_slot h))
 
   pub all_scanned : (sums : ℕ) → sums ≡ sum (λ t. get_or counts t 0) (below most_tests) → {r : Scanned} →
       r ≡ record { matches = matched; counts = counts; total = sums } →
-      r ≡ accepted file size (asked tests many)
+      r ≡ accepted file size query
   unfolding accepted matches total
   all_scanned sums total-is e =
-      let numbers = map count_of (tests_in file (asked tests many)) in
-      let long : length numbers ≡ many = length-map (tests_in file (asked tests many)) count_of ∙ length_tests in
-      let same_matches : matched ≡ matches comparing (bytes_in file) (tests_in file (asked tests many)) (rows_in file) =
-      far.matched ∙ ap (λ (n : ℕ). sum (λ row. cond (found_in file tests many row) 1 0) (below n)) at_the_end in
+      let numbers = map count_of (tests_in file query) in
+      let long : length numbers ≡ query.count = length-map (tests_in file query) count_of ∙ length_tests in
+      let same_matches : matched ≡ matches comparing (bytes_in file) (tests_in file query) (rows_in file) =
+      far.matched ∙ ap (λ (n : ℕ). sum (λ row. cond (found_in file query row) 1 0) (below n)) at_the_end in
       let same_counts : counts ≡ slots_of 0 numbers =
       slots_are counts numbers far.sixteen (omega (arith, long))
       (λ t h. each_count t (rw long at h) ∙ sym (numbers_in_place t (rw long at h)))
       (λ t h. far.after t (rw long at h)) in
-      let same_total : sums ≡ sum count_of (tests_in file (asked tests many)) =
+      let same_total : sums ≡ sum count_of (tests_in file query) =
       total-is
-      ∙ sum_of_slots (λ test. count_of (widened file test)) tests many counts there few each_count far.after
-      ∙ sym (sum_mapped count_of (widened file) (take many tests)) in
+      ∙ sum_of_slots (λ test. count_of (widened file test)) query.tests query.count counts there few each_count far.after
+      ∙ sym (sum_mapped count_of (widened file) (take query.count query.tests)) in
       e ∙ rw (same_matches, same_counts, same_total)
 
-  pub all_put : result ≡ laid before 0 (found_bits file (asked tests many))
+  pub all_put : result ≡ laid before 0 (found_bits file query)
   unfolding found_bits
   all_put =
       far.filled.filled
-      ∙ ap (λ (n : ℕ). laid before 0 (bits_of (found_in file tests many) n)) at_the_end
+      ∙ ap (λ (n : ℕ). laid before 0 (bits_of (found_in file query) n)) at_the_end

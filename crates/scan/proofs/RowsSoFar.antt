@@ -17,7 +17,7 @@ use Rattle.basis.proofs.Lists.{sum_one_more, sum_continues}
 use Rattle.basis.proofs.Members.{sum_each_same}
 use Rattle.basis.proofs.Runs.{within_or_past, in_below}
 use Rattle.basis.proofs.Buffers.{Filled, filled_nothing, filled_more}
-use Rattle.query.specs.declared.Test.{Test}
+use Rattle.query.specs.declared.Query.{Query}
 use Rattle.limits.specs.Limits.{most_tests}
 use Rattle.query.specs.Tests.{test_at}
 use Rattle.schedule.specs.Schedule.{count_in}
@@ -27,7 +27,6 @@ use Rattle.segment.specs.declared.Segment.{Segment}
 use Rattle.asking.specs.AtFile.{widened, tests_in, bytes_in}
 use Rattle.bits.specs.Bits.{bytes_for, bits_of}
 use Rattle.basis.specs.Sweeps.{Swept}
-use Rattle.asking.specs.Judged.{asked}
 use Rattle.segment.specs.Steps.{SegmentScanned}
 use Rattle.basis.proofs.FrontSweeps.{all_zero}
 use Rattle.bits.proofs.Packed.{bits_same, bits_joined, length_bits}
@@ -35,20 +34,20 @@ use Rattle.asking.proofs.Sizes.{Eighths, starts_on_a_byte}
 use Rattle.scan.proofs.SegmentSums.{found_in, counted_in}
 
 -- so many segments are done, and the rows before the first that is left
-pub record SoFar (file : List ℕ) (tests : List Test) (count size rows : ℕ) (before result counts : List ℕ) (matches first : ℕ) :
+pub record SoFar (file : List ℕ) (query : Query) (size rows : ℕ) (before result counts : List ℕ) (matches first : ℕ) :
     Type 0 where
   pub done : ℕ
   pub reached : first ≡ min (done * size) rows
-  pub counted : (t : ℕ) → t < count → get_or counts t 0 ≡ sum (counted_in file tests count size rows t) (below done)
-  pub after : (t : ℕ) → count ≤ t → get_or counts t 0 ≡ 0
+  pub counted : (t : ℕ) → t < query.count → get_or counts t 0 ≡ sum (counted_in file query size rows t) (below done)
+  pub after : (t : ℕ) → query.count ≤ t → get_or counts t 0 ≡ 0
   pub sixteen : length counts ≡ most_tests
-  pub matched : matches ≡ sum (λ row. cond (found_in file tests count row) 1 0) (below first)
-  pub filled : Filled before 0 (bits_of (found_in file tests count) first) result
+  pub matched : matches ≡ sum (λ row. cond (found_in file query row) 1 0) (below first)
+  pub filled : Filled before 0 (bits_of (found_in file query) first) result
 
-pub nothing_yet : (file : List ℕ) (tests : List Test) (count size rows : ℕ) (before : List ℕ) →
-    SoFar file tests count size rows before before (replicate most_tests 0) 0 0
+pub nothing_yet : (file : List ℕ) (query : Query) (size rows : ℕ) (before : List ℕ) →
+    SoFar file query size rows before before (replicate most_tests 0) 0 0
 unfolding bits_of bytes_for
-nothing_yet file tests count size rows before =
+nothing_yet file query size rows before =
     record {
       done = 0;
       reached = omega arith;
@@ -64,8 +63,8 @@ one_is_found : (is : Bool) → eqb (cond is 1 0) 1 ≡ is
 one_is_found true = refl
 one_is_found false = refl
 
-module _ (file : List ℕ) (tests : List Test) (count size rows : ℕ) (sized : Eighths size) (few : count ≤ most_tests)
-    (before result counts : List ℕ) (matches first : ℕ) (far : SoFar file tests count size rows before result counts matches first)
+module _ (file : List ℕ) (query : Query) (size rows : ℕ) (sized : Eighths size) (few : query.count ≤ most_tests)
+    (before result counts : List ℕ) (matches first : ℕ) (far : SoFar file query size rows before result counts matches first)
     (going : first < rows) where
   here : first ≡ far.done * size
   here = omega (arith, far.reached)
@@ -74,12 +73,12 @@ module _ (file : List ℕ) (tests : List Test) (count size rows : ℕ) (sized : 
   on_a_byte = here ∙ starts_on_a_byte size sized far.done
 
   module _ (n : ℕ) (so_many : n ≡ min size (rows - first)) (segment : Segment)
-      (scanned : SegmentScanned file tests count first n segment) where
+      (scanned : SegmentScanned file query first n segment) where
     -- the bytes of the segment are the next
-    continued : bits_of (found_in file tests count) (first + n) ≡
-        bits_of (found_in file tests count) first ++ bits_of (λ k. eqb (get_or segment.found k 0) 1) n
+    continued : bits_of (found_in file query) (first + n) ≡
+        bits_of (found_in file query) first ++ bits_of (λ k. eqb (get_or segment.found k 0) 1) n
     continued =
-        let found = found_in file tests count in
+        let found = found_in file query in
         let joined : bits_of found (first + n) ≡ bits_of found first ++ bits_of (λ k. found (first + k)) n =
         subst (λ (from : ℕ). bits_of found (from + n) ≡ bits_of found from ++ bits_of (λ k. found (from + k)) n) (sym on_a_byte)
         (bits_joined found (far.done * sized.eighths) n) in
@@ -88,22 +87,22 @@ module _ (file : List ℕ) (tests : List Test) (count size rows : ℕ) (sized : 
         (bits_same (λ k. found (first + k)) (λ k. eqb (get_or segment.found k 0) 1) n
         (λ k h. sym (ap (λ (x : ℕ). eqb x 1) (scanned.rows_found k h) ∙ one_is_found (found (first + k)))))
 
-    pub next_counted : (t : ℕ) → t < count →
-        get_or counts t 0 + get_or segment.counts t 0 ≡ sum (counted_in file tests count size rows t) (below (suc far.done))
+    pub next_counted : (t : ℕ) → t < query.count →
+        get_or counts t 0 + get_or segment.counts t 0 ≡ sum (counted_in file query size rows t) (below (suc far.done))
     next_counted t h =
         let same : run first n ≡ run (far.done * size) (min size (rows - far.done * size)) =
         ap₂ run here (so_many ∙ ap (λ (from : ℕ). min size (rows - from)) here) in
-        let there : get_or segment.counts t 0 ≡ counted_in file tests count size rows t far.done =
+        let there : get_or segment.counts t 0 ≡ counted_in file query size rows t far.done =
         scanned.counted t h
-        ∙ ap (count_in comparing (bytes_in file) (tests_in file (asked tests count)) (widened file (test_at tests t)))
+        ∙ ap (count_in comparing (bytes_in file) (tests_in file query) (widened file (test_at query.tests t)))
         (same ∙ sym (segment_is_run size rows far.done)) in
-        ap₂ ◌+◌ (far.counted t h) there ∙ sym (sum_one_more (counted_in file tests count size rows t) far.done)
+        ap₂ ◌+◌ (far.counted t h) there ∙ sym (sum_one_more (counted_in file query size rows t) far.done)
 
     pub one_more_segment : (result' counts' : List ℕ) (more : ℕ) →
         Swept counts counts' 0 most_tests (λ t. get_or counts t 0 + get_or segment.counts t 0) →
         more ≡ sum (λ k. get_or segment.found k 0) (below n) →
         result' ≡ laid result (first / 8) (bits_of (λ k. eqb (get_or segment.found k 0) 1) n) → bytes_for rows ≤ length before →
-        SoFar file tests count size rows before result' counts' (matches + more) (first + n)
+        SoFar file query size rows before result' counts' (matches + more) (first + n)
     unfolding bytes_for
     one_more_segment result' counts' more added ones put room =
         let byte = on_a_byte in
@@ -116,11 +115,11 @@ module _ (file : List ℕ) (tests : List Test) (count size rows : ℕ) (sized : 
           sixteen = added.same_length ∙ far.sixteen;
           matched =
               ap₂ ◌+◌ far.matched (ones ∙ found_here)
-              ∙ sym (sum_continues (λ row. cond (found_in file tests count row) 1 0) first n);
+              ∙ sym (sum_continues (λ row. cond (found_in file query row) 1 0) first n);
           filled =
               rw continued
-              (filled_more before 0 (bits_of (found_in file tests count) first) (first / 8) _ far.filled
-              (rw (length_bits (found_in file tests count) first) (omega arith))
+              (filled_more before 0 (bits_of (found_in file query) first) (first / 8) _ far.filled
+              (rw (length_bits (found_in file query) first) (omega arith))
               (omega arith)
               put);
         }
@@ -128,10 +127,10 @@ module _ (file : List ℕ) (tests : List Test) (count size rows : ℕ) (sized : 
         sums : (t : ℕ) → t < most_tests → get_or counts' t 0 ≡ get_or counts t 0 + get_or segment.counts t 0
         sums t h = rw (zero-add t) at (added.inside t h)
 
-        none : (t : ℕ) → count ≤ t → (t < most_tests) ⊎ (most_tests ≤ t) → get_or counts' t 0 ≡ 0
+        none : (t : ℕ) → query.count ≤ t → (t < most_tests) ⊎ (most_tests ≤ t) → get_or counts' t 0 ≡ 0
         none t past (inl h) = sums t h ∙ rw (far.after t past, scanned.after t past)
         none t past (inr h) = added.behind t (omega arith) ∙ far.after t past
 
         found_here : sum (λ k. get_or segment.found k 0) (below n) ≡
-            sum (λ k. cond (found_in file tests count (first + k)) 1 0) (below n)
+            sum (λ k. cond (found_in file query (first + k)) 1 0) (below n)
         found_here = sum_each_same _ _ (below n) (λ k m. scanned.rows_found k (in_below n k m))

@@ -2,14 +2,14 @@
 use Rattle.std.specs.Prelude.{ℕ, ◌+◌, ◌*◌, ◌≤◌, ◌<◌, ◌≡◌, List, false, length, get_or}
 use Rattle.limits.specs.Limits.{most_rows, most_slices, most_tests}
 use Rattle.register.specs.declared.Shape.{Shape}
-use Rattle.query.specs.declared.Test.{Test}
+use Rattle.query.specs.declared.Query.{Query}
 use Rattle.asking.specs.Sizes.{unfit_size}
 use Rattle.asking.specs.Judged.{Judged}
 use Rattle.bits.specs.Bits.{bytes_for}
 
 -- a file to which a query was held, a size that a segment may have, and room for the bits of all rows
-pub record ScanFit (file : List ℕ) (shape : Shape) (size : ℕ) (tests : List Test) (count : ℕ) (result : List ℕ) : Type 0 where
-  pub judged : Judged file shape tests count
+pub record ScanFit (file : List ℕ) (shape : Shape) (size : ℕ) (query : Query) (result : List ℕ) : Type 0 where
+  pub judged : Judged file shape query
   pub sized : unfit_size size ≡ false
   pub room : bytes_for shape.rows ≤ length result
 

@@ -9,13 +9,12 @@ ghost use Rattle.limits.specs.Limits.{most_tests};
 ghost use Rattle.basis.specs.Buffers.{laid};
 ghost use Rattle.scan.specs.Answers.{accepted, found_bits, scanned_of, left_in};
 ghost use Rattle.basis.specs.Sweeps.{Swept};
-ghost use Rattle.asking.specs.Judged.{asked};
 ghost use Rattle.scan.specs.Steps.{ScanFit, CountsFit};
 
 use limits::MOST_TESTS;
-use query::{Query, Test};
+use query::Query;
 use refusals::Refusal;
-use register::Shape;
+use register::Register;
 
 // What a scan found: how many rows match, a count of bytes for each test (0 after the last) and their total.
 #[derive(Clone, Copy)]
@@ -36,31 +35,26 @@ pub fn scan(file: &[u8], size: usize, query: Query, res: &mut [u8]) -> Result<Sc
     if res.len() < need {
         return Err(Refusal::OutputTooShort(need));
     }
-    Ok(scan_rows(file, shape, size, query.tests, query.count, res))
+    let register = Register { file, shape };
+    Ok(scan_rows(&register, size, query, res))
 }
 
-// Scans all segments of a file to which a query was held, one after the other.
-pub fn scan_rows(
-    file: &[u8],
-    shape: Shape,
-    size: usize,
-    tests: [Test; MOST_TESTS],
-    count: usize,
-    res: &mut [u8],
-) -> Scanned
-    requires { ScanFit file.now shape size tests count res.old }
-    ensures answer { result ≡ accepted file.now size (asked tests count) }
-    ensures left { res.new ≡ laid res.old 0 (found_bits file.now (asked tests count)) }
+// Scans all segments of a register to which a query was held, one after the other. The query is taken by
+// value: of an array in a struct behind a reference a proof knows no length.
+pub fn scan_rows(register: &Register<'_>, size: usize, query: Query, res: &mut [u8]) -> Scanned
+    requires { ScanFit register.now.file.now register.now.shape size query res.old }
+    ensures answer { result ≡ accepted register.now.file.now size query }
+    ensures left { res.new ≡ laid res.old 0 (found_bits register.now.file.now query) }
 {
-    let plan = segment::plan_of(file, shape, tests, count);
-    let rows = shape.rows;
+    let plan = segment::plan_of(register, &query);
+    let rows = register.shape.rows;
     let mut counts = [0usize; MOST_TESTS];
     let mut matches: usize = 0;
     // a `for` over (0..rows).step_by(size) takes up to 10 % more instructions
     let mut first = 0;
     while first < rows {
         let n = size.min(rows - first);
-        let segment = segment::scan_segment(file, rows, first, n, tests, count, &plan);
+        let segment = segment::scan_segment(register, first, n, query, &plan);
         // a copy: with a reference into the segment a scan takes up to 5 % more instructions
         let found = segment.found;
         add_counts(&mut counts, &segment.counts);

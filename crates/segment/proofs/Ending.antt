@@ -42,18 +42,18 @@ pub record Ended (g : Work) (standings in_rows cs : List ℕ) : Type 0 where
   none_more : NoneCounts comparing (bytes_in g.file) (query_of g) (rows_of g) slice
 
 -- no slot's test counts a slice, so no test of the query does
-by_slot : (g : Work) → FitWork g → (j : ℕ) → ((t : ℕ) → t < g.count → takes g t j ≡ false) →
+by_slot : (g : Work) → FitWork g → (j : ℕ) → ((t : ℕ) → t < g.query.count → takes g t j ≡ false) →
     NoneCounts comparing (bytes_in g.file) (query_of g) (rows_of g) j
 unfolding takes
 by_slot g fit j none test m =
-    let slot = asked_has_slot g.file g.tests g.count fit.there test m in
+    let slot = asked_has_slot g.file g.query fit.there test m in
     rw (← slot.2) (refuted (takes g slot.0 j) (none slot.0 slot.1))
 
 -- all tests are closed: what they hold after slice j is what they held before it
-pub ended_closed : {g : Work} {j t : ℕ} {standings in_rows cs : List ℕ} → FitWork g → t ≡ g.count →
+pub ended_closed : {g : Work} {j t : ℕ} {standings in_rows cs : List ℕ} → FitWork g → t ≡ g.query.count →
     Progress g j t standings in_rows cs true → Ended g standings in_rows cs
 ended_closed {g} {j} fit all-tests so_far =
-    let none : (u : ℕ) → u < g.count → takes g u j ≡ false = λ u h. so_far.none_took refl u (omega arith) in
+    let none : (u : ℕ) → u < g.query.count → takes g u j ≡ false = λ u h. so_far.none_took refl u (omega arith) in
     record {
       slice = j;
       reached =
@@ -96,10 +96,10 @@ in_unless_fails true = refl
 in_unless_fails false = refl
 
 module _ {g : Work} {standings in_rows left cs : List ℕ} (fit : FitWork g) (ended : Ended g standings in_rows cs)
-    (swept : Swept in_rows left 0 g.n (taken_out_by_all fails_kept g.tests g.count standings in_rows)) where
+    (swept : Swept in_rows left 0 g.n (taken_out_by_all fails_kept g.query.tests g.query.count standings in_rows)) where
   -- slot t fails row k at the end
   abbrev fails_at : ℕ → ℕ → Bool
-  fails_at k t = fails_kept (test_at g.tests t).comparison (get_or standings (t * longest_segment + k) 0)
+  fails_at k t = fails_kept (test_at g.query.tests t).comparison (get_or standings (t * longest_segment + k) 0)
 
   -- every test is true of row k as it stands
   abbrev all_true : ℕ → Bool
@@ -107,22 +107,22 @@ module _ {g : Work} {standings in_rows left cs : List ℕ} (fit : FitWork g) (en
       all (λ test. true_when test.comparison (standing comparing (bytes_in g.file) test ended.slice (g.first + k))) (query_of g)
 
   -- every test is true of a row that is in unless some test fails it
-  true_unless_fails : (k : ℕ) → k < g.n → is_out g ended.slice k ≡ false → all_true k ≡ not (any (fails_at k) (below g.count))
+  true_unless_fails : (k : ℕ) → k < g.n → is_out g ended.slice k ≡ false → all_true k ≡ not (any (fails_at k) (below g.query.count))
   unfolding standing_to
   true_unless_fails k h still =
-      all_by_number g.file g.tests g.count fit.there _
-      ∙ all_each_same _ (λ t. not (fails_at k t)) (below g.count)
+      all_by_number g.file g.query fit.there _
+      ∙ all_each_same _ (λ t. not (fails_at k t)) (below g.query.count)
       (λ t m.
-      let slot = in_below g.count t m in
-      let comparison = (test_at g.tests t).comparison in
+      let slot = in_below g.query.count t m in
+      let comparison = (test_at g.query.tests t).comparison in
       let s = standing_to g t ended.slice k in
       let in-by : T (not (ruled_out_when comparison s)) =
       fails_before (ruled_out_when comparison s) (is_out g ended.slice k)
-      (λ out. rw (work.out_by_number g fit ended.slice k) (any_from _ (below_holds g.count t slot) out))
+      (λ out. rw (work.out_by_number g fit ended.slice k) (any_from _ (below_holds g.query.count t slot) out))
       (refuted (is_out g ended.slice k) still) in
       kept_fails comparison s in-by
       ∙ ap (λ (b : ℕ). not (fails_kept comparison b)) (sym (ended.reached.to_do t (omega arith) slot k h still)))
-      ∙ none_passes (fails_at k) (below g.count)
+      ∙ none_passes (fails_at k) (below g.query.count)
 
   -- row k is found
   found_by_row : (k : ℕ) → k < g.n → get_or left k 0 ≡ cond (found comparing (bytes_in g.file) (query_of g) (g.first + k)) 1 0
@@ -136,14 +136,14 @@ module _ {g : Work} {standings in_rows left cs : List ℕ} (fit : FitWork g) (en
       (run_holds g.first g.n (g.first + k) (omega arith) (omega arith))))
     where
       by : (is_out g ended.slice k ≡ true) ⊎ (is_out g ended.slice k ≡ false) →
-          left_row (any (fails_at k) (below g.count)) (get_or in_rows k 0) ≡ cond (not (is_out g ended.slice k) && all_true k) 1 0
+          left_row (any (fails_at k) (below g.query.count)) (get_or in_rows k 0) ≡ cond (not (is_out g ended.slice k) && all_true k) 1 0
       by (inl out) =
-          rw (ended.reached.in_still k h, out) (out_is_not_found (any (fails_at k) (below g.count)) (all_true k))
+          rw (ended.reached.in_still k h, out) (out_is_not_found (any (fails_at k) (below g.query.count)) (all_true k))
       by (inr still) =
-          rw (ended.reached.in_still k h, still, true_unless_fails k h still) (in_unless_fails (any (fails_at k) (below g.count)))
+          rw (ended.reached.in_still k h, still, true_unless_fails k h still) (in_unless_fails (any (fails_at k) (below g.query.count)))
 
   -- so the segment is scanned
-  pub scanned : SegmentScanned g.file g.tests g.count g.first g.n (record { found = left; counts = cs })
+  pub scanned : SegmentScanned g.file g.query g.first g.n (record { found = left; counts = cs })
   unfolding counted_to takes
   scanned =
       record {
@@ -153,7 +153,7 @@ module _ {g : Work} {standings in_rows left cs : List ℕ} (fit : FitWork g) (en
             λ t h.
             ended.reached.to_count t (omega arith) h
             ∙ counted_so_far comparing comparing_lawful (bytes_in g.file) (query_of g) (rows_of g) ended.slice ended.none_more
-            (test_of g t) (slot_is_asked g.file g.tests g.count fit.there t h);
+            (test_of g t) (slot_is_asked g.file g.query fit.there t h);
         after = ended.reached.after;
         whole = (swept.same_length ∙ ended.reached.all_rows, ended.reached.all_counts);
       }

@@ -46,7 +46,7 @@ some_is_true true some = tt
 some_is_true false some = absurd (omega arith)
 
 module _ {g : Work} {j t : ℕ} {standings in_rows cs : List ℕ} {closed : Bool}
-    (so_far : Progress g j t standings in_rows cs closed) (next : t < g.count) where
+    (so_far : Progress g j t standings in_rows cs closed) (next : t < g.query.count) where
   -- never more than one a row
   pub open_at_most_one : (s k : ℕ) → k < g.n → open_row s (get_or in_rows k 0) ≤ 1
   open_at_most_one s k h = omega (arith, at_most_in (eqb s 0) (get_or in_rows k 0), so_far.in_still k h, (at_most_one (is_out g j k)).1)

@@ -17,25 +17,23 @@ use Rattle.directory.specs.File.{rows_in, width_in, offset_in}
 use Rattle.register.specs.Cells.{byte_at}
 use Rattle.register.proofs.Fit.{rows_as_opened, width_as_opened}
 use Rattle.register.proofs.Body.{byte_as_opened}
-use Rattle.query.specs.declared.Test.{Test}
+use Rattle.query.specs.declared.Query.{Query}
 use Rattle.query.specs.Tests.{test_at}
 use Rattle.segment.specs.Steps.{SegmentFit}
 use Rattle.segment.proofs.Work.{FitWork}
 
-module _ {file : List ℕ} {rows first n : ℕ} {tests : List Test} {count : ℕ} (fit : SegmentFit file rows first n tests count) where
-  abbrev shape : Shape
-  shape = record { rows = rows; columns = fit.columns }
-
+module _ {file : List ℕ} {shape : Shape} {first n : ℕ} {query : Query} (fit : SegmentFit file shape first n query) where
   -- the rows of the file
-  rows_are : rows ≡ rows_in file
+  rows_are : shape.rows ≡ rows_in file
   rows_are = rows_as_opened file shape fit.judged.opened
 
   -- each test's column has a width that fits
-  width_fits : (t : ℕ) → t < count → (0 < width_in file (test_at tests t).column) × (width_in file (test_at tests t).column ≤ widest)
-  width_fits t h = width_as_opened file shape fit.judged.opened (test_at tests t).column (fit.judged.columns t h)
+  width_fits : (t : ℕ) → t < query.count →
+      (0 < width_in file (test_at query.tests t).column) × (width_in file (test_at query.tests t).column ≤ widest)
+  width_fits t h = width_as_opened file shape fit.judged.opened (test_at query.tests t).column (fit.judged.columns t h)
 
   -- so the work on it is fit
-  pub segment_fits : count ≤ length tests → FitWork (record { file = file; tests = tests; count = count; first = first; n = n })
+  pub segment_fits : query.count ≤ length query.tests → FitWork (record { file = file; query = query; first = first; n = n })
   segment_fits there =
       record {
         few = fit.judged.few;
@@ -47,22 +45,22 @@ module _ {file : List ℕ} {rows first n : ℕ} {tests : List Test} {count : ℕ
       }
 
   -- the segment's bytes of a slice lie in the file
-  pub part_within : (t j : ℕ) → t < count → j < slices_of (width_in file (test_at tests t).column) → 0 < n →
-      offset_in file (test_at tests t).column + j * rows + first + n ≤ length file
+  pub part_within : (t j : ℕ) → t < query.count → j < slices_of (width_in file (test_at query.tests t).column) → 0 < n →
+      offset_in file (test_at query.tests t).column + j * shape.rows + first + n ≤ length file
   part_within t j h within some =
-      let last : first + (n - 1) < rows = omega (arith, fit.within) in
+      let last : first + (n - 1) < shape.rows = omega (arith, fit.within) in
       omega (
         arith,
-        byte_as_opened file shape fit.judged.opened (test_at tests t).column j (first + (n - 1)) (fit.judged.columns t h) within last,
+        byte_as_opened file shape fit.judged.opened (test_at query.tests t).column j (first + (n - 1)) (fit.judged.columns t h) within last,
       )
 
   -- each of them is a row's byte
-  pub part_byte : (t j from k : ℕ) → from ≡ offset_in file (test_at tests t).column + j * rows + first → k < n →
-      get_or (take (from + n - from) (drop from file)) k 0 ≡ byte_at file (test_at tests t).column j (first + k)
+  pub part_byte : (t j from k : ℕ) → from ≡ offset_in file (test_at query.tests t).column + j * shape.rows + first → k < n →
+      get_or (take (from + n - from) (drop from file)) k 0 ≡ byte_at file (test_at query.tests t).column j (first + k)
   unfolding byte_at
   part_byte t j from k here h =
       let within : k < from + n - from = omega arith in
-      let place : from + k ≡ offset_in file (test_at tests t).column + j * rows + (first + k) = omega arith in
+      let place : from + k ≡ offset_in file (test_at query.tests t).column + j * shape.rows + (first + k) = omega arith in
       rw (get_or-take, get_or-drop, place, rows_are)
 
 -- so many of them

@@ -16,15 +16,16 @@ use Rattle.register.specs.declared.Shape.{Shape}
 use Rattle.directory.specs.File.{width_in, offset_in}
 use Rattle.register.proofs.Fit.{width_as_opened}
 use Rattle.query.specs.declared.Test.{Test}
+use Rattle.query.specs.declared.Query.{Query}
 use Rattle.query.specs.Tests.{literal_of, test_at}
 use Rattle.asking.specs.Judged.{Judged}
 use Rattle.segment.specs.declared.Bounds.{Bounds}
 use Rattle.segment.specs.declared.Column.{Column}
 use Rattle.segment.specs.Steps.{FitLiteral, BytesPlanned, ColumnPlanned, Planned, no_bounds, no_column}
 
-module _ (file : List ℕ) (shape : Shape) (tests : List Test) (count : ℕ) (fit : Judged file shape tests count) (t : ℕ)
-    (h : t < count) where
-  pub fit_literal : FitLiteral (width_in file (test_at tests t).column) (literal_of (test_at tests t).comparison)
+module _ (file : List ℕ) (shape : Shape) (query : Query) (fit : Judged file shape query) (t : ℕ)
+    (h : t < query.count) where
+  pub fit_literal : FitLiteral (width_in file (test_at query.tests t).column) (literal_of (test_at query.tests t).comparison)
   fit_literal =
       record {
         narrow = (width_as_opened file shape fit.opened _ (fit.columns t h)).1;

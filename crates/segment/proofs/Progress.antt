@@ -42,12 +42,12 @@ pub record Progress (g : Work) (j t : ℕ) (standings in_rows counts : List ℕ)
   -- the standings of such a row, to the tests before t after slice j and to the rest before it
   pub done : (u : ℕ) → u < t → (k : ℕ) → k < g.n → is_out g j k ≡ false →
       get_or standings (u * longest_segment + k) 0 ≡ kept (standing_to g u (j + 1) k)
-  pub to_do : (u : ℕ) → t ≤ u → u < g.count → (k : ℕ) → k < g.n → is_out g j k ≡ false →
+  pub to_do : (u : ℕ) → t ≤ u → u < g.query.count → (k : ℕ) → k < g.n → is_out g j k ≡ false →
       get_or standings (u * longest_segment + k) 0 ≡ kept (standing_to g u j k)
   -- the counts likewise, and 0 after the last test
   pub counted : (u : ℕ) → u < t → get_or counts u 0 ≡ counted_to g u (j + 1)
-  pub to_count : (u : ℕ) → t ≤ u → u < g.count → get_or counts u 0 ≡ counted_to g u j
-  pub after : (u : ℕ) → g.count ≤ u → get_or counts u 0 ≡ 0
+  pub to_count : (u : ℕ) → t ≤ u → u < g.query.count → get_or counts u 0 ≡ counted_to g u j
+  pub after : (u : ℕ) → g.query.count ≤ u → get_or counts u 0 ≡ 0
   -- closed: none of the tests before t has taken slice j
   pub none_took : closed ≡ true → (u : ℕ) → u < t → takes g u j ≡ false
 
@@ -77,7 +77,7 @@ begun {g} fit whole ones =
     }
 
 module _ {g : Work} {j t : ℕ} {standings in_rows counts : List ℕ} {closed : Bool}
-    (so_far : Progress g j t standings in_rows counts closed) (next : t < g.count) where
+    (so_far : Progress g j t standings in_rows counts closed) (next : t < g.query.count) where
   -- test t does not take slice j, and its standings and its count stay
   pub passed_over : takes g t j ≡ false → Progress g j (t + 1) standings in_rows counts closed
   passed_over none =
@@ -135,9 +135,9 @@ left_zero true = refl
 left_zero false = refl
 
 -- after the last test the rows are ruled out by slice j
-pub next_slice : {g : Work} {j t : ℕ} {standings in_rows left counts : List ℕ} {closed : Bool} → FitWork g → t ≡ g.count →
+pub next_slice : {g : Work} {j t : ℕ} {standings in_rows left counts : List ℕ} {closed : Bool} → FitWork g → t ≡ g.query.count →
     Progress g j t standings in_rows counts closed →
-    Swept in_rows left 0 g.n (taken_out_by_all rules_out_kept g.tests g.count standings in_rows) →
+    Swept in_rows left 0 g.n (taken_out_by_all rules_out_kept g.query.tests g.query.count standings in_rows) →
     Progress g (j + 1) 0 standings left counts true
 next_slice {g} {j} {t} {standings} {in_rows} {left} {counts} fit all so_far swept =
     record {
@@ -155,20 +155,20 @@ next_slice {g} {j} {t} {standings} {in_rows} {left} {counts} fit all so_far swep
     }
   where
     rules : ℕ → ℕ → Bool
-    rules k t = rules_out_kept (test_at g.tests t).comparison (get_or standings (t * longest_segment + k) 0)
+    rules k t = rules_out_kept (test_at g.query.tests t).comparison (get_or standings (t * longest_segment + k) 0)
 
     was_in : (k : ℕ) → is_out g (j + 1) k ≡ false → (is_out g j k ≡ true) ⊎ (is_out g j k ≡ false) → is_out g j k ≡ false
     was_in k still (inl out) = absurd (true≢false (sym (work.out_next g j k out) ∙ still))
     was_in k still (inr in_then) = in_then
 
     ruled : (k : ℕ) → k < g.n → (is_out g j k ≡ true) ⊎ (is_out g j k ≡ false) →
-        left_row (any (rules k) (below g.count)) (get_or in_rows k 0) ≡ cond (is_out g (j + 1) k) 0 1
+        left_row (any (rules k) (below g.query.count)) (get_or in_rows k 0) ≡ cond (is_out g (j + 1) k) 0 1
     ruled k h (inl out) =
-        rw (so_far.in_still k h, out, work.out_next g j k out) (left_zero (any (rules k) (below g.count)))
+        rw (so_far.in_still k h, out, work.out_next g j k out) (left_zero (any (rules k) (below g.query.count)))
     ruled k h (inr still) =
         let same =
-        any_each_same (rules k) (λ u. ruled_out_when (test_at g.tests u).comparison (standing_to g u (j + 1) k)) (below g.count)
+        any_each_same (rules k) (λ u. ruled_out_when (test_at g.query.tests u).comparison (standing_to g u (j + 1) k)) (below g.query.count)
         (λ u m.
-        ap (rules_out_kept (test_at g.tests u).comparison) (so_far.done u (omega (arith, in_below g.count u m)) k h still)
-        ∙ kept_rules_out (test_at g.tests u).comparison (standing_to g u (j + 1) k)) in
+        ap (rules_out_kept (test_at g.query.tests u).comparison) (so_far.done u (omega (arith, in_below g.query.count u m)) k h still)
+        ∙ kept_rules_out (test_at g.query.tests u).comparison (standing_to g u (j + 1) k)) in
         rw (so_far.in_still k h, still, same, ← work.out_by_number g fit (j + 1) k)

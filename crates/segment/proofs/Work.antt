@@ -28,7 +28,7 @@ use Rattle.codes.specs.Pad.{high_of}
 use Rattle.codes.specs.Order.{and_then, against}
 use Rattle.codes.proofs.Width.{some_slice}
 use Rattle.codes.proofs.LowHigh.{cleared_is_against}
-use Rattle.query.specs.declared.Test.{Test}
+use Rattle.query.specs.declared.Query.{Query}
 use Rattle.query.specs.Tests.{literal_of, test_at}
 use Rattle.schedule.specs.Schedule.{standing, ruled_out, counts}
 use Rattle.schedule.specs.Comparisons.{ColumnTest, ruled_out_when, comparing}
@@ -38,23 +38,21 @@ use Rattle.schedule.proofs.Earlier.{counts_only_within}
 use Rattle.schedule.proofs.Unread.{unread_stays}
 use Rattle.schedule.proofs.Six.{comparing_lawful}
 use Rattle.asking.specs.AtFile.{widened, tests_in, bytes_in}
-use Rattle.asking.specs.Judged.{asked}
 use Rattle.segment.proofs.ByNumber.{any_by_number, asked_has_slot}
 
--- n rows of a file from the first on, and the first count tests
+-- n rows of a file from the first on, and a query
 pub record Work : Type 0 where
   pub file : List ℕ
-  pub tests : List Test
-  pub count : ℕ
+  pub query : Query
   pub first : ℕ
   pub n : ℕ
 
 -- the test in a slot, and all of them
 abbrev pub test_of : Work → ℕ → ColumnTest
-test_of g t = widened g.file (test_at g.tests t)
+test_of g t = widened g.file (test_at g.query.tests t)
 
 abbrev pub query_of : Work → List ColumnTest
-query_of g = tests_in g.file (asked g.tests g.count)
+query_of g = tests_in g.file g.query
 
 -- the segment's rows
 abbrev pub rows_of : Work → List ℕ
@@ -78,12 +76,12 @@ counted_to g t j = sum (λ i. cond (takes g t i) (length (rows_of g)) 0) (below 
 
 -- few tests and rows; columns with a width, and literals that fit them
 pub record FitWork (g : Work) : Type 0 where
-  pub few : g.count ≤ most_tests
-  pub there : g.count ≤ length g.tests
+  pub few : g.query.count ≤ most_tests
+  pub there : g.query.count ≤ length g.query.tests
   pub short : g.n ≤ longest_segment
-  pub some : (t : ℕ) → t < g.count → 0 < (test_of g t).width
-  pub narrow : (t : ℕ) → t < g.count → (test_of g t).width ≤ widest
-  pub literals : (t : ℕ) → t < g.count → literal_of (test_of g t).comparison < 2 ^ (test_of g t).width
+  pub some : (t : ℕ) → t < g.query.count → 0 < (test_of g t).width
+  pub narrow : (t : ℕ) → t < g.query.count → (test_of g t).width ≤ widest
+  pub literals : (t : ℕ) → t < g.query.count → literal_of (test_of g t).comparison < 2 ^ (test_of g t).width
 
 -- before the first slice every row is equal so far
 pub starts_equal : (g : Work) (t k : ℕ) → standing_to g t 0 k ≡ Ordering.eq
@@ -97,7 +95,7 @@ starts_in g fit k =
     fails (is_out g 0 k)
     (none_ruled_out_at_first comparing comparing_lawful (bytes_in g.file) (query_of g)
     (λ test m.
-    let slot = asked_has_slot g.file g.tests g.count fit.there test m in
+    let slot = asked_has_slot g.file g.query fit.there test m in
     rw (← slot.2) (some_slice (test_of g slot.0).width (fit.some slot.0 slot.1)))
     (g.first + k))
 
@@ -108,9 +106,9 @@ counted_none g t = refl
 
 -- a row is out when some slot rules it out
 pub out_by_number : (g : Work) → FitWork g → (j k : ℕ) →
-    is_out g j k ≡ any (λ t. ruled_out_when (test_at g.tests t).comparison (standing_to g t j k)) (below g.count)
+    is_out g j k ≡ any (λ t. ruled_out_when (test_at g.query.tests t).comparison (standing_to g t j k)) (below g.query.count)
 unfolding is_out standing_to ruled_out
-out_by_number g fit j k = any_by_number g.file g.tests g.count fit.there _
+out_by_number g fit j k = any_by_number g.file g.query fit.there _
 
 module _ (g : Work) (j k : ℕ) where
   -- what is out stays so

@@ -6,8 +6,10 @@ use Rattle.codes.specs.Width.{slices_of}
 use Rattle.codes.specs.Bytes.{byte_of}
 use Rattle.codes.specs.Pad.{high_of}
 use Rattle.directory.specs.File.{width_in, offset_in}
+use Rattle.register.specs.declared.Shape.{Shape}
 use Rattle.query.specs.declared.Test.{Test}
-use Rattle.asking.specs.Judged.{Judged, asked}
+use Rattle.query.specs.declared.Query.{Query}
+use Rattle.asking.specs.Judged.{Judged}
 use Rattle.query.specs.Tests.{literal_of, test_at}
 use Rattle.schedule.specs.Schedule.{count_in, found}
 use Rattle.schedule.specs.Comparisons.{comparing}
@@ -58,24 +60,23 @@ pub record Planned (file : List ℕ) (tests : List Test) (count : ℕ) (plan : P
       (offset_in file (test_at tests t).column) (column_at plan t)
 
 -- a segment of a judged file: n rows from the first on, at most 64
-pub record SegmentFit (file : List ℕ) (rows first n : ℕ) (tests : List Test) (count : ℕ) : Type 0 where
-  pub columns : ℕ
-  pub judged : Judged file (record { rows = rows; columns = columns }) tests count
+pub record SegmentFit (file : List ℕ) (shape : Shape) (first n : ℕ) (query : Query) : Type 0 where
+  pub judged : Judged file shape query
   pub short : n ≤ longest_segment
-  pub within : first + n ≤ rows
+  pub within : first + n ≤ shape.rows
 
 -- such a segment, and a plan to scan it by
-pub record SegmentPlanned (file : List ℕ) (rows first n : ℕ) (tests : List Test) (count : ℕ) (plan : Plan) : Type 0 where
-  pub fit : SegmentFit file rows first n tests count
-  pub planned : Planned file tests count plan
+pub record SegmentPlanned (file : List ℕ) (shape : Shape) (first n : ℕ) (query : Query) (plan : Plan) : Type 0 where
+  pub fit : SegmentFit file shape first n query
+  pub planned : Planned file query.tests query.count plan
 
 -- a segment scanned: 1 for each row found and 0 for every other place; each test's count, and 0 after the last
-pub record SegmentScanned (file : List ℕ) (tests : List Test) (count first n : ℕ) (segment : Segment) : Type 0 where
+pub record SegmentScanned (file : List ℕ) (query : Query) (first n : ℕ) (segment : Segment) : Type 0 where
   pub rows_found : (k : ℕ) → k < n →
-      get_or segment.found k 0 ≡ cond (found comparing (bytes_in file) (tests_in file (asked tests count)) (first + k)) 1 0
+      get_or segment.found k 0 ≡ cond (found comparing (bytes_in file) (tests_in file query) (first + k)) 1 0
   pub rest : (k : ℕ) → n ≤ k → get_or segment.found k 0 ≡ 0
-  pub counted : (t : ℕ) → t < count →
+  pub counted : (t : ℕ) → t < query.count →
       get_or segment.counts t 0 ≡
-      count_in comparing (bytes_in file) (tests_in file (asked tests count)) (widened file (test_at tests t)) (run first n)
-  pub after : (t : ℕ) → count ≤ t → get_or segment.counts t 0 ≡ 0
+      count_in comparing (bytes_in file) (tests_in file query) (widened file (test_at query.tests t)) (run first n)
+  pub after : (t : ℕ) → query.count ≤ t → get_or segment.counts t 0 ≡ 0
   pub whole : (length segment.found ≡ longest_segment) × (length segment.counts ≡ most_tests)

@@ -10,8 +10,8 @@ ghost use Rattle.asking.specs.Judged.{Judged};
 ghost use Rattle.segment.specs.Steps.{FitLiteral, LiteralSlice, ColumnPlanned, Planned, SegmentPlanned, SegmentScanned};
 
 use limits::{LONGEST_SEGMENT, MOST_SLICES, MOST_TESTS, STANDING_PLACES};
-use query::Test;
-use register::Shape;
+use query::Query;
+use register::Register;
 use standings::{NoMatch, RuledOut, in_rows, open_row, step, take_out_all};
 
 // The bytes of a slice between which a row counts as equal to the literal.
@@ -44,20 +44,19 @@ pub struct Segment {
 }
 
 // Makes the plan of a query.
-pub fn plan_of(file: &[u8], shape: Shape, tests: [Test; MOST_TESTS], count: usize) -> Plan
-    requires { Judged file.now shape tests count }
-    ensures { Planned file.now tests count result }
+pub fn plan_of(register: &Register<'_>, query: &Query) -> Plan
+    requires { Judged register.now.file.now register.now.shape query.now }
+    ensures { Planned register.now.file.now query.now.tests query.now.count result }
 {
     let mut columns = [Column {
         offset: 0,
         slices: 0,
         bounds: [Bounds { low: 0, high: 0 }; MOST_SLICES],
     }; MOST_TESTS];
-    for t in 0..count {
-        let test = tests[t];
-        let column = test.column;
-        let width = register::width_at(file, shape, column);
-        let offset = register::offset_at(file, shape, column);
+    for t in 0..query.count {
+        let test = query.tests[t];
+        let width = register.width(test.column);
+        let offset = register.offset(test.column);
         columns[t] = plan_column(width, query::literal_of(test.comparison), offset);
     }
     Plan { columns }
@@ -97,25 +96,26 @@ fn high_of(width: u8, literal: u64, slice: usize) -> u8
 }
 
 // Scans one segment of n rows: all tests take slice j before any row is ruled out by it, and the slices
-// end as soon as no test counts one.
+// end as soon as no test counts one. The query is taken by value: of an array in a struct behind a
+// reference a proof knows no length.
 pub fn scan_segment(
-    file: &[u8],
-    rows: usize,
+    register: &Register<'_>,
     first: usize,
     n: usize,
-    tests: [Test; MOST_TESTS],
-    count: usize,
+    query: Query,
     plan: &Plan,
 ) -> Segment
-    requires { SegmentPlanned file.now rows first n tests count plan.now }
-    ensures { SegmentScanned file.now tests count first n result }
+    requires { SegmentPlanned register.now.file.now register.now.shape first n query plan.now }
+    ensures { SegmentScanned register.now.file.now query first n result }
 {
+    let file = register.file;
+    let rows = register.shape.rows;
     let mut standings = [0u8; STANDING_PLACES];
     let mut inside = in_rows(n);
     let mut counts = [0usize; MOST_TESTS];
     'slices: for j in 0..MOST_SLICES {
         let mut closed = true;
-        'tests: for t in 0..count {
+        'tests: for t in 0..query.count {
             let column = &plan.columns[t];
             if j < column.slices {
                 let base = t * LONGEST_SEGMENT;
@@ -141,9 +141,9 @@ pub fn scan_segment(
         if closed {
             break 'slices;
         }
-        take_out_all::<RuledOut>(tests, count, &standings, &mut inside, n);
+        take_out_all::<RuledOut>(&query, &standings, &mut inside, n);
     }
-    take_out_all::<NoMatch>(tests, count, &standings, &mut inside, n);
+    take_out_all::<NoMatch>(&query, &standings, &mut inside, n);
     Segment {
         found: inside,
         counts,

@@ -2,35 +2,35 @@
 use Rattle.std.specs.Prelude.{ℕ, ◌+◌, ◌*◌, ◌≤◌, ◌<◌, ◌≡◌, List, length, get_or}
 use Rattle.limits.specs.Limits.{most_columns, most_slices, block_rows}
 use Rattle.directory.specs.Layout.{slices_before, bytes_before}
-use Rattle.table.specs.Table.{width_of, FitWidths, FitCodes}
+use Rattle.table.specs.Table.{width_of}
+use Rattle.table.specs.declared.Table.{Table}
+use Rattle.slicing.specs.Body.{body_of}
 
--- rows of codes that fit their columns, and a buffer with room for the body
-pub record FitBody (rows : ℕ) (widths codes out : List ℕ) : Type 0 where
-  pub fit_widths : FitWidths widths
-  pub fit_codes : FitCodes rows widths codes
-  pub room : bytes_before rows (width_of widths) (length widths) ≤ length out
+-- the body of a table
+abbrev pub body : Table → List ℕ
+body table = body_of table.rows table.widths.now table.codes.now
 
--- a block of rows of a register, and a buffer with room for the body
-pub record FitBlock (rows : ℕ) (widths codes : List ℕ) (first n : ℕ) (out : List ℕ) : Type 0 where
-  pub fit_widths : FitWidths widths
-  pub fit_codes : FitCodes rows widths codes
-  pub within : first + n ≤ rows
+-- a buffer with room for it
+abbrev pub RoomForBody : Table → List ℕ → Type 0
+RoomForBody table out = bytes_before table.rows (width_of table.widths.now) (length table.widths.now) ≤ length out
+
+-- a block of rows of a table, and a buffer with room for its body
+pub record FitBlock (table : Table) (first n : ℕ) (out : List ℕ) : Type 0 where
+  pub within : first + n ≤ table.rows
   pub few : n ≤ block_rows
-  pub room : bytes_before rows (width_of widths) (length widths) ≤ length out
+  pub room : RoomForBody table out
 
 -- a column of it, with so many slices before it
-pub record FitColumn (rows : ℕ) (widths codes : List ℕ) (column slices first n : ℕ) (out : List ℕ) : Type 0 where
-  pub block : FitBlock rows widths codes first n out
-  pub there : column < length widths
-  pub counted : slices ≡ slices_before (width_of widths) column
+pub record FitColumn (table : Table) (column slices first n : ℕ) (out : List ℕ) : Type 0 where
+  pub block : FitBlock table first n out
+  pub there : column < length table.widths.now
+  pub counted : slices ≡ slices_before (width_of table.widths.now) column
   pub few : slices ≤ most_slices * most_columns
 
 -- a column of a block of rows, and a place for each of them
-pub record FitCopy (rows : ℕ) (widths codes : List ℕ) (column first n : ℕ) (stored : List ℕ) : Type 0 where
-  pub fit_widths : FitWidths widths
-  pub fit_codes : FitCodes rows widths codes
-  pub there : column < length widths
-  pub within : first + n ≤ rows
+pub record FitCopy (table : Table) (column first n : ℕ) (stored : List ℕ) : Type 0 where
+  pub there : column < length table.widths.now
+  pub within : first + n ≤ table.rows
   pub few : n ≤ block_rows
   pub whole : length stored ≡ block_rows
 

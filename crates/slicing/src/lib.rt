@@ -9,33 +9,33 @@ ghost use Rattle.codes.specs.Width.{slices_of};
 ghost use Rattle.codes.specs.Bytes.{stored_of};
 ghost use Rattle.directory.specs.Layout.{slices_before};
 ghost use Rattle.table.specs.Table.{width_of, code_of};
-ghost use Rattle.slicing.specs.Body.{body_of};
 ghost use Rattle.table.specs.ManyAtOnce.{Holds};
-ghost use Rattle.slicing.specs.Putting.{FitBody, FitBlock, FitColumn, FitCopy, FitRun, BodyPut};
+ghost use Rattle.slicing.specs.Putting.{body, RoomForBody, FitBlock, FitColumn, FitCopy, FitRun, BodyPut};
 
 use limits::BLOCK_ROWS;
+use table::Table;
 
 // Writes the slices of all columns to the front, by blocks of rows, so that the codes are gone
 // through once.
-pub fn write_body(rows: usize, widths: &[u8], codes: &[u64], out: &mut [u8])
-    requires { FitBody rows widths.now codes.now out.old }
-    ensures { out.new ≡ laid out.old 0 (body_of rows widths.now codes.now) }
+pub fn write_body(table: &Table<'_>, out: &mut [u8])
+    requires { RoomForBody table.now out.old }
+    ensures { out.new ≡ laid out.old 0 (body table.now) }
 {
-    for first in (0..rows).step_by(BLOCK_ROWS) {
-        let n = BLOCK_ROWS.min(rows - first);
-        write_block(rows, widths, codes, first, n, out);
+    for first in (0..table.rows).step_by(BLOCK_ROWS) {
+        let n = BLOCK_ROWS.min(table.rows - first);
+        write_block(table, first, n, out);
     }
 }
 
 // Writes the bytes of a block of rows, column after column.
-fn write_block(rows: usize, widths: &[u8], codes: &[u64], first: usize, n: usize, out: &mut [u8])
-    requires { FitBlock rows widths.now codes.now first n out.old }
-    ensures { BodyPut rows (body_of rows widths.now codes.now) out.old out.new
-        first (first + n) 0 (slices_before (width_of widths.now) (length widths.now)) }
+fn write_block(table: &Table<'_>, first: usize, n: usize, out: &mut [u8])
+    requires { FitBlock table.now first n out.old }
+    ensures { BodyPut table.now.rows (body table.now) out.old out.new
+        first (first + n) 0 (slices_before (width_of table.now.widths.now) (length table.now.widths.now)) }
 {
     let mut slices: usize = 0;
-    for (column, width) in widths.iter().enumerate() {
-        write_block_column(rows, widths, codes, column, slices, first, n, out);
+    for (column, width) in table.widths.iter().enumerate() {
+        write_block_column(table, column, slices, first, n, out);
         slices += codes::slices_of(*width);
     }
 }
@@ -43,47 +43,43 @@ fn write_block(rows: usize, widths: &[u8], codes: &[u64], first: usize, n: usize
 // Writes the bytes of a block of rows in one column, with so many slices before it: slice after
 // slice, from a copy of their stored numbers.
 fn write_block_column(
-    rows: usize,
-    widths: &[u8],
-    codes: &[u64],
+    table: &Table<'_>,
     column: usize,
     slices: usize,
     first: usize,
     n: usize,
     out: &mut [u8],
 )
-    requires { FitColumn rows widths.now codes.now column slices first n out.old }
-    ensures { BodyPut rows (body_of rows widths.now codes.now) out.old out.new
-        first (first + n) slices (slices + slices_of (width_of widths.now column)) }
+    requires { FitColumn table.now column slices first n out.old }
+    ensures { BodyPut table.now.rows (body table.now) out.old out.new
+        first (first + n) slices (slices + slices_of (width_of table.now.widths.now column)) }
 {
     let mut stored = [0u32; BLOCK_ROWS];
-    copy_stored(rows, widths, codes, column, first, n, &mut stored);
-    let own = codes::slices_of(widths[column]);
+    copy_stored(table, column, first, n, &mut stored);
+    let own = codes::slices_of(table.widths[column]);
     for slice in 0..own {
-        let at = rows * (slices + slice) + first;
+        let at = table.rows * (slices + slice) + first;
         write_run(&stored, n, 8 * (own - 1 - slice), out, at);
     }
 }
 
 // Copies the stored numbers of a block of rows in one column.
 fn copy_stored(
-    rows: usize,
-    widths: &[u8],
-    codes: &[u64],
+    table: &Table<'_>,
     column: usize,
     first: usize,
     n: usize,
     stored: &mut [u32; BLOCK_ROWS],
 )
-    requires { FitCopy rows widths.now codes.now column first n stored.old }
-    ensures { Holds (λ k. stored_of (width_of widths.now column)
-        (code_of widths.now codes.now (first + k) column)) n stored.new }
+    requires { FitCopy table.now column first n stored.old }
+    ensures { Holds (λ k. stored_of (width_of table.now.widths.now column)
+        (code_of table.now.widths.now table.now.codes.now (first + k) column)) n stored.new }
 {
-    let columns = widths.len();
-    let unit = codes::unit_of(widths[column]);
+    let columns = table.widths.len();
+    let unit = codes::unit_of(table.widths[column]);
     for k in 0..n {
         let row = first + k;
-        stored[k] = (codes[row * columns + column] * unit) as u32;
+        stored[k] = (table.codes[row * columns + column] * unit) as u32;
     }
 }
 

@@ -11,8 +11,8 @@ ghost use Rattle.standings.specs.Standings.{stepped_row, open_row, rules_out_kep
 ghost use Rattle.basis.specs.Sweeps.{Swept};
 ghost use Rattle.standings.specs.TakenOut.{taken_out_by, taken_out, taken_out_by_all};
 
-use limits::{LONGEST_SEGMENT, MOST_TESTS, STANDING_PLACES};
-use query::{Comparison, Test};
+use limits::{LONGEST_SEGMENT, STANDING_PLACES};
+use query::{Comparison, Query};
 
 // The standing after one more byte.
 fn step_row(standing: u8, byte: u8, low: u8, high: u8) -> u8
@@ -154,17 +154,16 @@ impl Ruling for NoMatch {
 // Takes out the rows that some test takes out. Each ruling has a loop of its own, with one caller, so that
 // it becomes part of it; one loop with a switch was slower with one test and short segments.
 pub fn take_out_all<R: Ruling>(
-    tests: [Test; MOST_TESTS],
-    count: usize,
+    query: &Query,
     standings: &[u8; STANDING_PLACES],
     inside: &mut [u8; LONGEST_SEGMENT],
     n: usize,
 )
-    requires { (count ≤ most_tests) × (n ≤ longest_segment) × (length inside.old ≡ longest_segment) }
+    requires { (query.now.count ≤ most_tests) × (n ≤ longest_segment) × (length inside.old ≡ longest_segment) }
     ensures { Swept inside.old inside.new 0 n
-        (taken_out_by_all R.takes_out tests count standings.now inside.old) }
+        (taken_out_by_all R.takes_out query.now.tests query.now.count standings.now inside.old) }
 {
-    for (t, test) in tests[..count].iter().enumerate() {
+    for (t, test) in query.tests[..query.count].iter().enumerate() {
         R::rule(test.comparison, standings, t * LONGEST_SEGMENT, inside, n);
     }
 }

@@ -5,11 +5,21 @@
 
 ghost use Rattle.std.specs.Prelude.{◌≡◌, not, ◌+◌, ◌^◌, ltb, length, get_or};
 ghost use Rattle.basis.specs.Places.{first_found};
-ghost use Rattle.table.specs.Table.{width_of, FitWidths, FullTable, unfit_at, too_large_at};
+ghost use Rattle.table.specs.Table.{width_of, FitWidths, FullTable, FitCodes, unfit_at, too_large_at};
 ghost use Rattle.table.specs.ManyAtOnce.{FullRows, RowThere, PeriodsThere, CodesThere};
 ghost use Rattle.table.specs.ManyAtOnce.{RowsBelow, Covers, Raised, Holds};
 
 use limits::{LONGEST_PERIOD, MOST_COLUMNS};
+
+// Rows of codes, row after row, that a register may hold under columns of these widths.
+#[derive(Clone, Copy)]
+pub struct Table<'a> {
+    pub rows: usize,
+    pub widths: &'a [u8],
+    pub codes: &'a [u64],
+    pub ghost fit_widths: { FitWidths widths.now },
+    pub ghost fit_codes: { FitCodes rows widths.now codes.now },
+}
 
 // The lowest column whose width fits none.
 pub fn first_unfit(widths: &[u8]) -> Option<usize>

@@ -9,6 +9,7 @@ ghost use Rattle.writer.specs.Writing.{written_of, shown_for, left_in};
 
 use limits::{MOST_COLUMNS, MOST_ROWS};
 use refusals::Refusal;
+use table::Table;
 
 // Writes the file of so many rows, with these widths and these codes, row after row, to the front
 // of `out`. Refused, it changes nothing.
@@ -40,6 +41,11 @@ pub fn write(rows: usize, widths: &[u8], codes: &[u64], out: &mut [u8]) -> Resul
     if out.len() < need {
         return Err(Refusal::OutputTooShort(need));
     }
-    filing::write_file(rows, widths, codes, out);
+    let table = Table {
+        rows,
+        widths,
+        codes,
+    };
+    filing::write_file(&table, out);
     Ok(need)
 }

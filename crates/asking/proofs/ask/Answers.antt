@@ -23,7 +23,7 @@ promised : (start : Start) {reply : Result Shape Refusal} →
     reply ≡ asked_of a.file.now a.size a.query →
     record {
       answer : reply ≡ asked_of a.file.now a.size a.query;
-      fit : (shape : Shape) → reply ≡ Ok shape → Judged a.file.now shape a.query.tests a.query.count × (unfit_size a.size ≡ false);
+      fit : (shape : Shape) → reply ≡ Ok shape → Judged a.file.now shape a.query × (unfit_size a.size ≡ false);
     }
 promised start answered =
     let slots : length start.args.query.tests ≡ most_tests = omega arith in
@@ -53,8 +53,7 @@ returns-then-query-gt-MOST_TESTS c =
     promised p.Start (outcomes.too_many_tests _ _ _ _ (opened p.In_ok-shape) (right p.Else-unfit_size) c.if-query-gt-MOST_TESTS.true)
 
 pub judge_tests-requires : goal.judge_tests-requires
-judge_tests-requires c =
-    record { opened = opened (goal.at.judge_tests-requires c).In_ok-shape; few = c.if-query-gt-MOST_TESTS.false }
+judge_tests-requires c = c.if-query-gt-MOST_TESTS.false
 
 pub returns-in_err-judge_tests : goal.returns-in_err-judge_tests
 returns-in_err-judge_tests c =

@@ -3,12 +3,12 @@ use Prim.Native.Nat.{◌≤◌, ◌<◌}
 use native.Mathlib.Omega.{arith}
 use native.Mathlib.Numerals.{add-one}
 use mathlib.Core.Path.{◌≡◌, sym, ◌∙◌}
-use lib.ListN.{length, take, drop_of_length-le}
+use lib.ListN.{length, drop_of_length-le}
 use lib.Seq.{get_or-take, length-take-le}
 use Rattle.std.proofs.lemmas.Result.{err_from_is_err_and}
 use Rattle.basis.proofs.Refusals.{at_first, ends}
 use Rattle.answers.proofs.Replies.{answer_accepted}
-use Rattle.query.specs.Tests.{empty_slot, test_at}
+use Rattle.query.specs.Tests.{empty_slot, tests_of, test_at}
 use Rattle.asking.specs.Refusals.{lines_for, lines_for_all}
 use Rattle.asking.specs.Verdicts.{verdict_of}
 use Rattle.asking.proofs.Judging as judging
@@ -16,19 +16,18 @@ use Rattle.asking.proofs.judge_tests.Goals as goal
 use Rattle.asking.proofs.judge_tests.Goals.{After-judge_test, At-loop-t, In-loop-t}
 
 -- the slots are sixteen, and the count is at most that
-as_many : (c : At-loop-t) → let a = c.args in length (take a.count a.tests) ≡ a.count
-as_many c = length-take-le c.args.count c.args.tests (omega arith)
+as_many : (c : At-loop-t) → let query = c.args.query in length (tests_of query) ≡ query.count
+as_many c = length-take-le c.args.query.count c.args.query.tests (omega arith)
 
-there : (c : In-loop-t) → let a = c.args in c.loop-t.t < length (take a.count a.tests)
-there c = rw (length-take-le c.args.count c.args.tests (omega arith)) c.loop-t-test.true
+there : (c : In-loop-t) → c.loop-t.t < length (tests_of c.args.query)
+there c = rw (length-take-le c.args.query.count c.args.query.tests (omega arith)) c.loop-t-test.true
 
 said : (c : After-judge_test) →
-    let a = c.args in
     let t = c.loop-t.t in
-    verdict_of (lines_for a.file.now t (test_at (take a.count a.tests) t)) ≡ c.judge_test.result
+    verdict_of (lines_for c.args.register.now.file.now t (test_at (tests_of c.args.query) t)) ≡ c.judge_test.result
 said c =
-    let a = c.args in
-    rw (get_or-take a.count a.tests c.loop-t.t empty_slot c.loop-t-test.true) (sym c.judge_test.ensures)
+    let query = c.args.query in
+    rw (get_or-take query.count query.tests c.loop-t.t empty_slot c.loop-t-test.true) (sym c.judge_test.ensures)
 
 pub loop-t-init : goal.loop-t-init
 loop-t-init c = at_first _
@@ -50,11 +49,11 @@ loop-t-preserved c =
 pub returns : goal.returns
 unfolding lines_for_all
 returns c =
-    let none_left = drop_of_length-le (take c.args.count c.args.tests) {i = c.loop-t.t}
+    let none_left = drop_of_length-le (tests_of c.args.query) {i = c.loop-t.t}
     (omega (arith, as_many (goal.at.returns c).At-loop-t, c.loop-t-test.false)) in
     let none_answers = ends (rw none_left at c.loop-t.invariant) in
-    let room : c.args.count ≤ length c.args.tests = omega arith in
+    let room : c.args.query.count ≤ length c.args.query.tests = omega arith in
     record {
       first = sym (answer_accepted _ _ none_answers);
-      judged = λ e. judging.judged _ _ _ _ c.requires.opened c.requires.few room 0 none_answers;
+      judged = λ e. judging.judged _ _ _ c.args.register.now.opened c.requires room 0 none_answers;
     }

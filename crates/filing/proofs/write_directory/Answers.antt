@@ -16,25 +16,27 @@ use Rattle.filing.proofs.write_directory.Goals.{After-slices_of-slices}
 
 -- its column is counted
 passed : (c : After-slices_of-slices) →
-    Counted c.args.widths.now (c.loop-column.slices + c.slices_of-slices.result) (c.loop-column.column + 1)
+    Counted c.args.table.now.widths.now (c.loop-column.slices + c.slices_of-slices.result) (c.loop-column.column + 1)
 passed c =
-    one_more_counted _ c.requires.fit_widths _ _ _ c.loop-column.invariant.0 (omega arith) c.slices_of-slices.ensures
+    one_more_counted _ c.args.table.now.fit_widths _ _ _ c.loop-column.invariant.0 (omega arith) c.slices_of-slices.ensures
 
 pub loop-column-init : goal.loop-column-init
 unfolding flatten
 loop-column-init c = let args = c.args in (none_counted _, filled_nothing args.out.now args.at)
 
 pub overflow_add-slices : goal.overflow_add-slices
-overflow_add-slices c = omega (arith, (passed c).few, c.requires.fit_widths.few)
+overflow_add-slices c = omega (arith, (passed c).few, c.args.table.now.fit_widths.few)
 
 pub loop-column-preserved : goal.loop-column-preserved
 loop-column-preserved c =
-    let args = c.args in
+    let at = c.args.at in
+    let rows = c.args.table.now.rows in
+    let widths = c.args.table.now.widths.now in
     let column = c.loop-column.column in
-    let so_far = length_entries args.rows args.widths.now column in
-    let own = length_entry_with (width_of args.widths.now column) (args.rows * slices_before (width_of args.widths.now) column) in (
+    let so_far = length_entries rows widths column in
+    let own = length_entry_with (width_of widths column) (rows * slices_before (width_of widths) column) in (
       passed c,
-      filled_list _ _ (entry_of args.rows args.widths.now) column (args.at + entry_bytes * column) c.loop-column.invariant.1
+      filled_list _ _ (entry_of rows widths) column (at + entry_bytes * column) c.loop-column.invariant.1
           (omega arith) (omega arith) (rw c.loop-column.invariant.0.counted at c.write_entry.ensures),
     )
 
@@ -42,5 +44,5 @@ pub returns : goal.returns
 unfolding directory_of
 returns c =
     let turn = c.loop-column in
-    let end : turn.column ≡ length c.args.widths.now = omega arith in
+    let end : turn.column ≡ length c.args.table.now.widths.now = omega arith in
     rw end at turn.invariant.1.filled

@@ -8,4 +8,5 @@ use Rattle.filing.proofs.write_directory.Given as goal
 
 abbrev pub invariant-loop-column : goal.invariant-loop-column
 invariant-loop-column l =
-    Counted l.widths l.slices l.column × Filled l.initial.out l.at (flatten (map (entry_of l.rows l.widths) (below l.column))) l.out
+    let widths = l.table.widths.now in
+    Counted widths l.slices l.column × Filled l.initial.out l.at (flatten (map (entry_of l.table.rows widths) (below l.column))) l.out

@@ -38,27 +38,22 @@ parts_are_file rows widths codes out body end room said-1 said-2 said-3 =
 
 -- there is room for all of them
 room : (c : After-body_length-body) →
-    c.body_length-body.result + entry_bytes * length c.args.widths.now + trailer_bytes ≤ length c.args.out.now
+    c.body_length-body.result + entry_bytes * length c.args.table.now.widths.now + trailer_bytes ≤ length c.args.out.now
 unfolding file_length
-room c = omega (arith, c.body_length-body.ensures.counted, c.requires.room)
+room c = omega (arith, c.body_length-body.ensures.counted, c.requires)
+
+pub body_length-body-requires : goal.body_length-body-requires
+body_length-body-requires c =
+    let table = c.args.table.now in
+    record { fit_widths = table.fit_widths; few_rows = table.fit_codes.few_rows }
 
 pub write_body-requires : goal.write_body-requires
 write_body-requires c =
-    let pre = c.requires in
-    record {
-      fit_widths = pre.fit_widths;
-      fit_codes = pre.fit_codes;
-      room = omega (arith, room (goal.at.write_body-requires c).After-body_length-body, c.body_length-body.ensures.counted);
-    }
+    omega (arith, room (goal.at.write_body-requires c).After-body_length-body, c.body_length-body.ensures.counted)
 
 pub write_directory-requires : goal.write_directory-requires
 write_directory-requires c =
-    let pre = c.requires in
-    record {
-      fit_widths = pre.fit_widths;
-      few_rows = pre.fit_codes.few_rows;
-      room = omega (arith, room (goal.at.write_directory-requires c).After-body_length-body);
-    }
+    omega (arith, room (goal.at.write_directory-requires c).After-body_length-body)
 
 pub returns : goal.returns
 returns c =

@@ -27,5 +27,5 @@ loop-column-preserved c =
     let a = c.args in
     let written = rw c.code_at.ensures at c.put_cell.ensures.wrote in (
       omega (arith, c.put_cell.ensures.within),
-      rw (cell_more a.file.now a.row turn.column) (written_then turn.invariant.1 written),
+      rw (cell_more a.register.now.file.now a.row turn.column) (written_then turn.invariant.1 written),
     )

@@ -7,4 +7,4 @@ use Rattle.lines.proofs.put_cells.Given as goal
 
 abbrev pub invariant-loop-column : goal.invariant-loop-column
 invariant-loop-column l =
-    (l.piece.at ≤ l.fn.piece.at + longest_cell * l.column) × Wrote (cells l.file l.row l.column) l.fn.piece l.piece
+    (l.piece.at ≤ l.fn.piece.at + longest_cell * l.column) × Wrote (cells l.register.file.now l.row l.column) l.fn.piece l.piece

@@ -6,10 +6,13 @@ use Rattle.listing.proofs.FoundListing.{piece_written}
 use Rattle.listing.proofs.write_found.Goals as goal
 
 pub returns-in-Err : goal.returns-in-Err
-returns-in-Err c = rw c.in-Err.is (piece_written c.new-piece.ensures c.refused_line.ensures (search rules))
+returns-in-Err c =
+    let line = c.refused_line-piece.ensures in
+    rw c.in-Err.is (piece_written line.from_nothing line.wrote (search rules))
 
 pub returns : goal.returns
 unfolding accepted_lines
 returns c =
-    let lines = written_then c.head_line.ensures.wrote (written_then c.test_lines.ensures.wrote c.row_lines.ensures) in
-    rw c.in-Ok.is (piece_written c.new-piece.ensures lines (search rules))
+    let line = c.head_line-piece.ensures.wrote in
+    let lines = written_then line.wrote (written_then c.test_lines.ensures.wrote c.row_lines.ensures) in
+    rw c.in-Ok.is (piece_written line.from_nothing lines (search rules))

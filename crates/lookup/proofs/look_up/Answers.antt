@@ -95,7 +95,6 @@ returns-then-out-rows c =
 pub write_codes-requires : goal.write_codes-requires
 write_codes-requires c =
     record {
-      opened = opened (goal.at.write_codes-requires c).In_ok-shape;
       column_there = there (goal.at.write_codes-requires c).In_default;
       rows_there = all_below (goal.at.write_codes-requires c).In_default;
       room = c.if-out-rows.false;

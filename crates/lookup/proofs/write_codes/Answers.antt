@@ -17,28 +17,23 @@ use Rattle.lookup.proofs.write_codes.Goals.{After-code_of}
 -- what is stored is the code of the row at hand
 code_here : (c : After-code_of) →
     let row = get_or c.args.list.now c.loop-i.i 0 in
-    c.code_of.result ≡ code_at c.args.file.now c.args.column row
+    c.code_of.result ≡ code_at c.args.register.now.file.now c.args.column row
 code_here c =
     c.code_of.ensures
-    ∙ rw (c.width_at-width.ensures, c.offset_at-offset.ensures)
-    (sym (code_gathered _ _ c.requires.opened _ _))
+    ∙ rw (c.width-width.ensures, c.offset-offset.ensures)
+    (sym (code_gathered c.args.register.now _ _))
 
 pub code_of-requires : goal.code_of-requires
 code_of-requires c =
     let known = c.requires in
-    rw (c.width_at-width.ensures, c.offset_at-offset.ensures)
-    (code_within
-    (record {
-      opened = known.opened;
-      column_there = known.column_there;
-      row_there = known.rows_there _ c.loop-i-test.true;
-    }))
+    rw (c.width-width.ensures, c.offset-offset.ensures)
+    (code_within c.args.register.now _ _ (record { column_there = known.column_there; row_there = known.rows_there _ c.loop-i-test.true }))
 
 pub loop-i-preserved : goal.loop-i-preserved
 loop-i-preserved c =
     let turn = c.loop-i in
     let a = c.args in
-    let stored = laid_each (code_at a.file.now a.column) a.out.now a.list.now turn.i 0 (omega arith) (omega arith) in (
+    let stored = laid_each (code_at a.register.now.file.now a.column) a.out.now a.list.now turn.i 0 (omega arith) (omega arith) in (
       ap₂ (λ (out : List ℕ) (code : ℕ). set out turn.i code) turn.invariant.0 (code_here c) ∙ stored,
       rw length-set turn.invariant.1,
     )
@@ -49,4 +44,4 @@ returns c =
     let turn = c.loop-i in
     let a = c.args in
     let all : take turn.i a.list.now ≡ a.list.now = take_all turn.i a.list.now c.loop-i-test.false in
-    turn.invariant.0 ∙ ap (λ (list : List ℕ). laid a.out.now 0 (map (code_at a.file.now a.column) list)) all
+    turn.invariant.0 ∙ ap (λ (list : List ℕ). laid a.out.now 0 (map (code_at a.register.now.file.now a.column) list)) all

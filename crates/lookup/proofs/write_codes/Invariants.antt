@@ -8,5 +8,5 @@ use Rattle.lookup.proofs.write_codes.Given as goal
 
 abbrev pub invariant-loop-i : goal.invariant-loop-i
 invariant-loop-i l =
-    (l.out ≡ laid l.initial.out 0 (map (code_at l.file l.column) (take l.i l.list)))
+    (l.out ≡ laid l.initial.out 0 (map (code_at l.register.file.now l.column) (take l.i l.list)))
     × (length l.out ≡ length l.initial.out)

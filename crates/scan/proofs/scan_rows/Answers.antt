@@ -19,21 +19,21 @@ use Rattle.scan.proofs.RowsSoFar.{nothing_yet, one_more_segment}
 use Rattle.scan.proofs.scan_rows.Goals as goal
 use Rattle.scan.proofs.scan_rows.Goals.{Start}
 
-few_rows : (c : Start) → c.args.shape.rows ≤ most_rows
+few_rows : (c : Start) → c.args.register.now.shape.rows ≤ most_rows
 few_rows c = few_rows_as_opened _ _ c.requires.judged.opened
 
-narrow_columns : (c : Start) → (t : ℕ) → t < c.args.count → width_in c.args.file.now (test_at c.args.tests t).column ≤ widest
+narrow_columns : (c : Start) → (t : ℕ) → t < c.args.query.count →
+    width_in c.args.register.now.file.now (test_at c.args.query.tests t).column ≤ widest
 narrow_columns c t h = (width_as_opened _ _ c.requires.judged.opened _ (c.requires.judged.columns t h)).1
 
 pub loop-first-init : goal.loop-first-init
-loop-first-init c = nothing_yet _ _ _ _ _ _
+loop-first-init c = nothing_yet _ _ _ _ _
 
 pub scan_segment-segment-requires : goal.scan_segment-segment-requires
 scan_segment-segment-requires c =
     let most = (in_eighths _ c.requires.sized).most in
     record {
       fit = record {
-        columns = c.args.shape.columns;
         judged = c.requires.judged;
         short = omega (arith, c.min-n.ensures);
         within = omega (arith, c.min-n.ensures, c.loop-first-test.true);
@@ -48,7 +48,7 @@ add_counts-requires c =
       whole = c.loop-first.invariant.sixteen;
       small =
           λ t h.
-          sums_small _ _ _ _ _ (in_eighths _ c.requires.sized) _ _ _ _ _ c.loop-first.invariant (few_rows start) (narrow_columns start)
+          sums_small _ _ _ _ (in_eighths _ c.requires.sized) _ _ _ _ _ c.loop-first.invariant (few_rows start) (narrow_columns start)
           c.requires.judged.few c.loop-first-test.true _ c.min-n.ensures _ c.scan_segment-segment.ensures t;
     }
 
@@ -56,17 +56,17 @@ pub put_bits-matches-requires : goal.put_bits-matches-requires
 put_bits-matches-requires c =
     let most = (in_eighths _ c.requires.sized).most in
     record {
-      found = found_rows _ _ _ _ _ _ (omega (arith, c.min-n.ensures)) c.scan_segment-segment.ensures;
+      found = found_rows _ _ _ _ _ (omega (arith, c.min-n.ensures)) c.scan_segment-segment.ensures;
       room =
-          room_for_segment _ _ _ _ _ (in_eighths _ c.requires.sized) _ _ _ _ _ c.loop-first.invariant
+          room_for_segment _ _ _ _ (in_eighths _ c.requires.sized) _ _ _ _ _ c.loop-first.invariant
           c.requires.judged.few c.loop-first-test.true _ c.min-n.ensures c.requires.room;
     }
 
 pub overflow_add-matches : goal.overflow_add-matches
 overflow_add-matches c =
     let most = (in_eighths _ c.requires.sized).most in
-    let ones = ones_at_most _ _ (found_rows _ _ _ _ _ _ (omega (arith, c.min-n.ensures)) c.scan_segment-segment.ensures) in
-    let so_far = matches_at_most _ _ _ _ _ (in_eighths _ c.requires.sized) _ _ _ _ _ c.loop-first.invariant in
+    let ones = ones_at_most _ _ (found_rows _ _ _ _ _ (omega (arith, c.min-n.ensures)) c.scan_segment-segment.ensures) in
+    let so_far = matches_at_most _ _ _ _ (in_eighths _ c.requires.sized) _ _ _ _ _ c.loop-first.invariant in
     omega (arith, c.put_bits-matches.ensures.counted, few_rows (goal.at.overflow_add-matches c).Start, c.loop-first-test.true)
 
 pub loop-first-smaller : goal.loop-first-smaller
@@ -74,7 +74,7 @@ loop-first-smaller c = let some = (in_eighths _ c.requires.sized).some in omega 
 
 pub loop-first-preserved : goal.loop-first-preserved
 loop-first-preserved c =
-    one_more_segment _ _ _ _ _ (in_eighths _ c.requires.sized) c.requires.judged.few _ _ _ _ _ c.loop-first.invariant c.loop-first-test.true
+    one_more_segment _ _ _ _ (in_eighths _ c.requires.sized) c.requires.judged.few _ _ _ _ _ c.loop-first.invariant c.loop-first-test.true
     _ c.min-n.ensures _ c.scan_segment-segment.ensures _ _ _ c.add_counts.ensures c.put_bits-matches.ensures.counted
     c.put_bits-matches.ensures.left c.requires.room
 
@@ -84,7 +84,7 @@ sum-total-requires-clause-fits c =
     let far = c.loop-first.invariant in
     let small =
     sum_bounded c.loop-first.counts (most_rows * most_slices) most_tests far.sixteen
-    (counts_small _ _ _ _ _ (in_eighths _ c.requires.sized) _ _ _ _ _ far (few_rows start) (narrow_columns start)) in
+    (counts_small _ _ _ _ (in_eighths _ c.requires.sized) _ _ _ _ _ far (few_rows start) (narrow_columns start)) in
     fits_from_yields_list c.iter.result _ (YieldsList-from_slice c.loop-first.counts cc) (omega arith)
 
 pub returns : goal.returns
@@ -96,7 +96,7 @@ returns c =
     let summed : c.sum-total.result ≡ std.sum c.loop-first.counts = search rules in
     record {
       answer =
-          all_scanned _ _ _ _ _ same sized few (omega arith) _ _ _ _ _ far c.loop-first-test.false _
+          all_scanned _ _ _ _ same sized few (omega arith) _ _ _ _ _ far c.loop-first-test.false _
           (summed ∙ sum_by_number _ _ far.sixteen) refl;
-      left = all_put _ _ _ _ _ same sized few (omega arith) _ _ _ _ _ far c.loop-first-test.false;
+      left = all_put _ _ _ _ same sized few (omega arith) _ _ _ _ _ far c.loop-first-test.false;
     }

@@ -5,7 +5,7 @@ use Rattle.scan.proofs.scan_rows.Given as goal
 
 abbrev pub invariant-loop-first : goal.invariant-loop-first
 invariant-loop-first l =
-    SoFar l.file l.tests l.count l.size l.rows l.initial.res l.res l.counts l.matches l.first
+    SoFar l.register.file.now l.query l.size l.rows l.initial.res l.res l.counts l.matches l.first
 
 abbrev pub decreases-loop-first : goal.decreases-loop-first
 decreases-loop-first l = l.rows - l.first

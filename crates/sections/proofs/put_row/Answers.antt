@@ -10,7 +10,7 @@ returns-then-is_marked c =
     let a = c.args in
     let is = sym c.is_marked.ensures ∙ c.if-is_marked.true in
     record {
-      wrote = rw (marked_line a.file.now a.bits.now a.row is) c.row_line.ensures.wrote;
+      wrote = rw (marked_line a.register.now.file.now a.bits.now a.row is) c.row_line.ensures.wrote;
       within = c.row_line.ensures.within;
     }
 
@@ -18,4 +18,4 @@ pub returns-else-is_marked : goal.returns-else-is_marked
 returns-else-is_marked c =
     let a = c.args in
     let is = sym c.is_marked.ensures ∙ c.if-is_marked.false in
-    record { wrote = rw (unmarked_line a.file.now a.bits.now a.row is) (wrote_nothing _); within = omega arith }
+    record { wrote = rw (unmarked_line a.register.now.file.now a.bits.now a.row is) (wrote_nothing _); within = omega arith }

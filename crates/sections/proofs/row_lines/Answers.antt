@@ -17,5 +17,5 @@ loop-row-preserved c =
     let turn = c.loop-row in
     let a = c.args in (
       omega arith,
-      rw (row_more a.file.now a.bits.now turn.row) (written_then turn.invariant.1 put.wrote),
+      rw (row_more a.register.now.file.now a.bits.now turn.row) (written_then turn.invariant.1 put.wrote),
     )

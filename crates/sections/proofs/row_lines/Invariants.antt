@@ -8,4 +8,5 @@ use Rattle.sections.proofs.row_lines.Given as goal
 
 abbrev pub invariant-loop-row : goal.invariant-loop-row
 invariant-loop-row l =
-    (l.piece.at ≤ l.fn.piece.at + longest_line * l.row) × Wrote (row_lines l.file (marked_below l.row l.bits)) l.fn.piece l.piece
+    (l.piece.at ≤ l.fn.piece.at + longest_line * l.row)
+    × Wrote (row_lines l.register.file.now (marked_below l.row l.bits)) l.fn.piece l.piece

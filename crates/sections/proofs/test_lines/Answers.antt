@@ -17,17 +17,18 @@ loop-t-init c = (omega arith, wrote_nothing _)
 
 pub overflow_mul-most : goal.overflow_mul-most
 overflow_mul-most c =
+    let register = c.args.register.now in
     let there = c.requires.columns_there _ c.loop-t-test.true in
-    let bytes = few_bytes_as_opened _ c.args.shape c.requires.opened _ there in
-    let slices = c.slices_of.ensures ∙ ap slices_of c.width_at-width.ensures in
-    let product : c.args.shape.rows * c.slices_of.result ≤ most_rows * most_slices = rw slices bytes in
+    let bytes = few_bytes_as_opened _ _ register.opened _ there in
+    let slices = c.slices_of.ensures ∙ ap slices_of c.width-width.ensures in
+    let product : register.shape.rows * c.slices_of.result ≤ most_rows * most_slices = rw slices bytes in
     omega (arith, product)
 
 pub loop-t-preserved : goal.loop-t-preserved
 loop-t-preserved c =
     let turn = c.loop-t in
-    let slices = c.slices_of.ensures ∙ ap slices_of c.width_at-width.ensures in
-    let most = ap₂ (λ (a b : ℕ). a * b) (rows_as_opened _ c.args.shape c.requires.opened) slices in (
+    let slices = c.slices_of.ensures ∙ ap slices_of c.width-width.ensures in
+    let most = ap₂ (λ (a b : ℕ). a * b) (rows_as_opened _ _ c.args.register.now.opened) slices in (
       omega arith,
       rw (test_more _ _ _ turn.t) (written_then turn.invariant.1 (rw most at c.test_line.ensures.wrote)),
     )

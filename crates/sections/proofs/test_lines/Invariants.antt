@@ -7,4 +7,5 @@ use Rattle.sections.proofs.test_lines.Given as goal
 
 abbrev pub invariant-loop-t : goal.invariant-loop-t
 invariant-loop-t l =
-    (l.piece.at ≤ l.fn.piece.at + longest_line * l.t) × Wrote (test_lines l.file l.tests l.counts l.t) l.fn.piece l.piece
+    (l.piece.at ≤ l.fn.piece.at + longest_line * l.t)
+    × Wrote (test_lines l.register.file.now l.query.tests l.counts l.t) l.fn.piece l.piece

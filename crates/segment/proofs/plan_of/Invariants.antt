@@ -6,4 +6,4 @@ use Rattle.segment.specs.Steps.{Planned}
 use Rattle.segment.proofs.plan_of.Given as goal
 
 abbrev pub invariant-loop-t : goal.invariant-loop-t
-invariant-loop-t l = (length l.columns ≡ most_tests) × Planned l.file l.tests l.t (record { columns = l.columns })
+invariant-loop-t l = (length l.columns ≡ most_tests) × Planned l.register.file.now l.query.tests l.t (record { columns = l.columns })

@@ -26,14 +26,15 @@ use Rattle.segment.proofs.scan_segment.Goals.{else-j-column, else-slices-test, t
 
 -- the work on the segment, which is fit
 abbrev work_at : Start → Work
-work_at c = work_of c.args.file.now c.args.first c.args.n c.args.tests c.args.count
+work_at c = work_of c.args.register.now.file.now c.args.first c.args.n c.args.query
 
 fit : (c : Start) → FitWork (work_at c)
 fit c = segment_fits c.requires.fit (omega arith)
 
 -- where some row is open, the segment's bytes of the slice lie in the file
 room : (c : Then-open-gt0) →
-    (column_at c.args.plan.now c.tests.t).offset + c.slices.j * c.args.rows + c.args.first + c.args.n ≤ length c.args.file.now
+    (column_at c.args.plan.now c.tests.t).offset + c.slices.j * c.args.register.now.shape.rows + c.args.first + c.args.n ≤
+    length c.args.register.now.file.now
 room c = bytes_within c.requires.fit c.requires.planned c.tests.t c.slices.j c.tests-test.true c.if-j-column.true (omega arith)
 
 pub slices-init : goal.slices-init
@@ -104,7 +105,7 @@ slices-preserved c =
 
 -- where the loop over the slices is left, by its test or because all tests are closed, they have ended
 ended : (c : Left-slices) →
-    Ended (work_of c.args.file.now c.args.first c.args.n c.args.tests c.args.count) c.slices-test.standings c.slices.inside
+    Ended (work_of c.args.register.now.file.now c.args.first c.args.n c.args.query) c.slices-test.standings c.slices.inside
     c.slices-test.counts
 ended c =
     let fits = segment_fits c.requires.fit (omega arith) in

@@ -20,15 +20,16 @@ times_unit width code unit same = ap (λ (u : ℕ). code * u) same
 -- the stored number of the turn's row fits
 small : (c : In-loop-k) →
     let args = c.args in
-    code_of args.widths.now args.codes.now (args.first + c.loop-k.k) args.column * c.unit_of-unit.result
-    < four_bytes
+    let table = args.table.now in
+    code_of table.widths.now table.codes.now (args.first + c.loop-k.k) args.column * c.unit_of-unit.result < four_bytes
 small c =
     let args = c.args in
+    let table = args.table.now in
     let pre = c.requires in
-    let row_there : args.first + c.loop-k.k < args.rows = omega (arith, pre) in
-    let code = code_of args.widths.now args.codes.now (args.first + c.loop-k.k) args.column in
-    let same = times_unit (width_of args.widths.now args.column) code _ c.unit_of-unit.ensures in
-    omega (arith, stored_small _ _ _ pre.fit_codes _ _ row_there pre.there pre.fit_widths)
+    let row_there : args.first + c.loop-k.k < table.rows = omega (arith, pre) in
+    let code = code_of table.widths.now table.codes.now (args.first + c.loop-k.k) args.column in
+    let same = times_unit (width_of table.widths.now args.column) code _ c.unit_of-unit.ensures in
+    omega (arith, stored_small _ _ _ table.fit_codes _ _ row_there pre.there table.fit_widths)
 
 pub overflow_mul-stored-in-loop-k : goal.overflow_mul-stored-in-loop-k
 overflow_mul-stored-in-loop-k c = omega (arith, small (goal.at.overflow_mul-stored-in-loop-k c).In-loop-k)
@@ -40,5 +41,5 @@ pub loop-k-preserved : goal.loop-k-preserved
 loop-k-preserved c =
     let turn = c.loop-k in
     let args = c.args in
-    holds_one_more (stored_in args.widths.now args.codes.now args.column args.first) turn.k _ _ turn.invariant
+    holds_one_more (stored_in args.table.now args.column args.first) turn.k _ _ turn.invariant
     (omega (arith, c.requires)) (times_unit _ _ _ c.unit_of-unit.ensures)

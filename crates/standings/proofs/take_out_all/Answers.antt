@@ -8,7 +8,7 @@ use Rattle.standings.proofs.take_out_all.Goals as goal
 
 pub loop-t-preserved : goal.loop-t-preserved
 loop-t-preserved g c =
-    let args = c.args in
-    let next : c.loop-t.t < args.count = omega (arith, length-take args.count args.tests) in
-    one_more_takes_out g.R.Ruling.takes_out args.tests args.standings.now _ _ c.loop-t.t c.loop-t.invariant
+    let query = c.args.query.now in
+    let next : c.loop-t.t < query.count = omega (arith, length-take query.count query.tests) in
+    one_more_takes_out g.R.Ruling.takes_out query.tests c.args.standings.now _ _ c.loop-t.t c.loop-t.invariant
     (rw get_or-take at c.rule.ensures)

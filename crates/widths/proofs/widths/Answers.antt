@@ -36,7 +36,7 @@ returns-then-out-columns c =
     rw same (refused_by _ _ _ _ (stops (own_lines_lem past _) short))
 
 pub write_widths-requires : goal.write_widths-requires
-write_widths-requires c = (opened (goal.at.write_widths-requires c).In_ok-shape, omega arith)
+write_widths-requires c = omega arith
 
 pub returns : goal.returns
 unfolding own_lines

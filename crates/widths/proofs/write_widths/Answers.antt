@@ -15,13 +15,14 @@ use Rattle.widths.proofs.write_widths.Goals as goal
 pub loop-column-preserved : goal.loop-column-preserved
 loop-column-preserved c =
     let turn = c.loop-column in
-    let stored = filled_element c.args.out.now 0 (width_in c.args.file.now) turn.column turn.invariant (omega arith) in
-    rw c.width_at.ensures (rw zero-add at stored)
+    let stored = filled_element c.args.out.now 0 (width_in c.args.register.now.file.now) turn.column turn.invariant (omega arith) in
+    rw c.width.ensures (rw zero-add at stored)
 
 pub returns : goal.returns
 unfolding widths_of
 returns c =
     let turn = c.loop-column in
-    let a = c.args in
-    let all : turn.column ≡ columns_in a.file.now = omega (arith, columns_as_opened _ _ c.requires.0) in
-    turn.invariant.filled ∙ ap (λ (n : ℕ). laid a.out.now 0 (map (width_in a.file.now) (below n))) all
+    let register = c.args.register.now in
+    let file = register.file.now in
+    let all : turn.column ≡ columns_in file = omega (arith, columns_as_opened _ _ register.opened) in
+    turn.invariant.filled ∙ ap (λ (n : ℕ). laid c.args.out.now 0 (map (width_in file) (below n))) all

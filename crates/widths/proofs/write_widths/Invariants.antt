@@ -6,4 +6,4 @@ use Rattle.directory.specs.File.{width_in}
 use Rattle.widths.proofs.write_widths.Given as goal
 
 abbrev pub invariant-loop-column : goal.invariant-loop-column
-invariant-loop-column l = Filled l.initial.out 0 (map (width_in l.file) (below l.column)) l.out
+invariant-loop-column l = Filled l.initial.out 0 (map (width_in l.register.file.now) (below l.column)) l.out

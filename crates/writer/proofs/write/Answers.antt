@@ -127,13 +127,15 @@ returns-then-out-need c =
     let past = past_8 (goal.at.returns-then-out-need c).In_default-first_too_large in
     rw end (refused_by _ _ _ _ (stops past short))
 
-pub write_file-requires : goal.write_file-requires
-write_file-requires c =
+pub invariant_of-table : goal.invariant_of-table
+invariant_of-table c =
     record {
-      fit_widths = fit_widths (goal.at.write_file-requires c).In_default;
-      fit_codes = fit_codes (goal.at.write_file-requires c).In_default-first_too_large;
-      room = omega (arith, c.file_length-need.ensures, c.if-out-need.false);
+      fit_widths = fit_widths (goal.at.invariant_of-table c).In_default;
+      fit_codes = fit_codes (goal.at.invariant_of-table c).In_default-first_too_large;
     }
+
+pub write_file-requires : goal.write_file-requires
+write_file-requires c = omega (arith, c.file_length-need.ensures, c.if-out-need.false)
 
 pub returns : goal.returns
 returns c =
