@@ -25,7 +25,7 @@ pub struct Test {
     pub comparison: Comparison,
 }
 
-// The first `count` slots hold the tests; the slots after them mean nothing.
+// The first `count` slots hold the tests; the slots after them mean nothing. No list of its own length: there is no heap.
 #[derive(Clone, Copy)]
 pub struct Query {
     pub count: usize,

@@ -33,6 +33,7 @@ pub fn answer_reply(answer: Result<usize, Refusal>) -> [u64; ANSWER_NUMBERS]
     }
 }
 
+// This and `scanned_reply` have arms of one form; one function over what makes the numbers would be longer than both.
 pub fn read_reply(asked: Result<Asked, Refusal>) -> [u64; READ_NUMBERS]
     ensures { result ≡ read_reply asked }
 {

@@ -30,6 +30,7 @@ pub fn first_unfit(widths: &[u8]) -> Option<usize>
 
 // The lowest index of a code that is too large for its column. Rows that are known to be below their
 // limits at once are passed over; the others are gone through one by one.
+// It takes no `Table`: one is made of codes that have been judged.
 pub fn first_too_large(rows: usize, widths: &[u8], codes: &[u64]) -> Option<usize>
     requires { FullTable rows widths.now codes.now }
     ensures { result ≡ first_found (too_large_at widths.now codes.now) (length codes.now) }
