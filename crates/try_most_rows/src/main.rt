@@ -199,11 +199,16 @@ fn say_reply<R: Print>(rt: &R, reply: Result<Scanned, Refusal>) {
     match reply {
         Ok(scanned) => {
             say_refusal(rt, 0, 0, 0);
-            say_numbers(rt, scanned.matches, scanned.total, scanned.counts);
+            say_scanned(rt, scanned);
         }
         Err(refusal) => {
             say_refusal(rt, refusal.number(), refusal.place(), refusal.need());
-            say_numbers(rt, 0, 0, [0; MOST_TESTS]);
+            let nothing = Scanned {
+                matches: 0,
+                counts: [0; MOST_TESTS],
+                total: 0,
+            };
+            say_scanned(rt, nothing);
         }
     }
 }
@@ -212,9 +217,10 @@ fn say_refusal<R: Print>(rt: &R, number: u64, place: usize, need: usize) {
     let _ = print!(rt; ": number {number} place {place} need {need}");
 }
 
-fn say_numbers<R: Print>(rt: &R, matches: usize, total: usize, counts: [usize; MOST_TESTS]) {
-    say(rt, b" matches ", matches);
-    say(rt, b" total ", total);
+fn say_scanned<R: Print>(rt: &R, scanned: Scanned) {
+    let counts = scanned.counts;
+    say(rt, b" matches ", scanned.matches);
+    say(rt, b" total ", scanned.total);
     say(rt, b" counts ", counts[0]);
     say(rt, b" ", counts[1]);
     say(rt, b" ", counts[2]);
