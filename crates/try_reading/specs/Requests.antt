@@ -89,7 +89,18 @@ pub data NoSlicePut {A E : Type 0} (gives : ℕ → Result A E → Type 0) (numb
   too_many : (elements rest : List ℕ) → IsSlice numbers elements rest → room < length elements → NoSlicePut gives numbers room
   unmade : (elements rest : List ℕ) → IsSlice numbers elements rest → Unmade gives elements → NoSlicePut gives numbers room
 
--- an output ends a request: how many elements it has, at most so many, and how many of them are to be lent
+-- an output at a place ends a request: how many elements it has, at most so many, and how many of them are to be lent
+pub record IsRoomAt (most : ℕ) (numbers : List ℕ) (at elements lent : ℕ) : Type 0 where
+  pub ends : length numbers ≡ at + 2
+  pub has : elements ≡ get_or numbers at 0
+  pub lends : lent ≡ get_or numbers (at + 1) 0
+  pub at_most : elements ≤ most
+
+-- nothing that is one does
+abbrev pub NoRoomAt : ℕ → List ℕ → ℕ → Type 0
+NoRoomAt most numbers at = (elements lent : ℕ) → IsRoomAt most numbers at elements lent → ⊥
+
+-- an output is all of a request, and no more of it is to be lent than there is
 pub record IsRoom (most : ℕ) (numbers : List ℕ) (elements lent : ℕ) : Type 0 where
   pub ends : numbers ≡ elements ∷ lent ∷ []
   pub lends : lent ≤ elements

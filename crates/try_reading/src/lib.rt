@@ -4,7 +4,7 @@
 
 ghost use Rattle.std.specs.Prelude.{◌≡◌, ℕ, ◌+◌, ◌-◌, ◌*◌, ◌^◌, ◌≤◌, length, MatchOption};
 ghost use Rattle.try_reading.specs.Requests.{Behind, NumbersPut, Pushed, NoSlice, IsSlice, Made, Unmade};
-ghost use Rattle.try_reading.specs.Requests.{SlicePut, NoSlicePut, NoRoom, IsRoom};
+ghost use Rattle.try_reading.specs.Requests.{SlicePut, NoSlicePut, NoRoomAt, IsRoomAt, NoRoom, IsRoom};
 
 // How many elements an output has, and how many of them are lent.
 #[derive(Clone, Copy)]
@@ -106,17 +106,28 @@ where
     Some(())
 }
 
-// The output that ends a request, of at most so many elements.
-pub fn room_of(numbers: &[u64], most: usize) -> Option<Room>
-    ensures { MatchOption result (NoRoom most numbers.now) (λ room. IsRoom most numbers.now room.elements room.lent) }
+// The output at a place, of at most so many elements, which ends a request. How many of them are to be lent is not looked at.
+pub fn room_at(numbers: &[u64], at: usize, most: usize) -> Option<Room>
+    ensures { MatchOption result (NoRoomAt most numbers.now at) (λ room. IsRoomAt most numbers.now at room.elements room.lent) }
 {
-    let [elements, lent] = *numbers else {
+    if numbers.len() < 2 || at != numbers.len() - 2 {
         return None;
-    };
-    let elements = elements as usize;
-    let lent = lent as usize;
-    if elements < lent || most < elements {
+    }
+    let elements = numbers[at] as usize;
+    let lent = numbers[at + 1] as usize;
+    if most < elements {
         return None;
     }
     Some(Room { elements, lent })
+}
+
+// The output that is all of a request, of at most so many elements, where no more of them are to be lent than there are.
+pub fn room_of(numbers: &[u64], most: usize) -> Option<Room>
+    ensures { MatchOption result (NoRoom most numbers.now) (λ room. IsRoom most numbers.now room.elements room.lent) }
+{
+    let room = room_at(numbers, 0, most)?;
+    if room.elements < room.lent {
+        return None;
+    }
+    Some(room)
 }
