@@ -54,7 +54,7 @@ pub fn scan_rows(register: &Register<'_>, size: usize, query: Query, res: &mut [
     let mut first = 0;
     while first < rows {
         let n = size.min(rows - first);
-        let segment = segment::scan_segment(register, first, n, query, &plan);
+        let segment = segment::scan_segment(register, first, n, &query, &plan);
         // a copy: with a reference into the segment a scan takes up to 5 % more instructions
         let found = segment.found;
         add_counts(&mut counts, &segment.counts);

@@ -65,9 +65,11 @@ pub record SegmentFit (file : List ℕ) (shape : Shape) (first n : ℕ) (query :
   pub short : n ≤ longest_segment
   pub within : first + n ≤ shape.rows
 
--- such a segment, and a plan to scan it by
+-- such a segment, and a plan to scan it by. That the tests counted have a slot each is so of every query that was judged, as there are
+-- as many slots as tests at most; of a query that is lent it has to be said
 pub record SegmentPlanned (file : List ℕ) (shape : Shape) (first n : ℕ) (query : Query) (plan : Plan) : Type 0 where
   pub fit : SegmentFit file shape first n query
+  pub slots : query.count ≤ length query.tests
   pub planned : Planned file query.tests query.count plan
 
 -- a segment scanned: 1 for each row found and 0 for every other place; each test's count, and 0 after the last

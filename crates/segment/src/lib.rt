@@ -96,17 +96,17 @@ fn high_of(width: u8, literal: u64, slice: usize) -> u8
 }
 
 // Scans one segment of n rows: all tests take slice j before any row is ruled out by it, and the slices
-// end as soon as no test counts one. The query is taken by value: of an array in a struct behind a
-// reference a proof knows no length.
+// end as soon as no test counts one. The query is lent: of one that is taken by value the whole is copied
+// for each segment.
 pub fn scan_segment(
     register: &Register<'_>,
     first: usize,
     n: usize,
-    query: Query,
+    query: &Query,
     plan: &Plan,
 ) -> Segment
-    requires { SegmentPlanned register.now.file.now register.now.shape first n query plan.now }
-    ensures { SegmentScanned register.now.file.now query first n result }
+    requires { SegmentPlanned register.now.file.now register.now.shape first n query.now plan.now }
+    ensures { SegmentScanned register.now.file.now query.now first n result }
 {
     let file = register.file;
     let rows = register.shape.rows;
@@ -141,9 +141,9 @@ pub fn scan_segment(
         if closed {
             break 'slices;
         }
-        take_out_all::<RuledOut>(&query, &standings, &mut inside, n);
+        take_out_all::<RuledOut>(query, &standings, &mut inside, n);
     }
-    take_out_all::<NoMatch>(&query, &standings, &mut inside, n);
+    take_out_all::<NoMatch>(query, &standings, &mut inside, n);
     Segment {
         found: inside,
         counts,

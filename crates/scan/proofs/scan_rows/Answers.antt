@@ -4,6 +4,7 @@
 use Prim.Native.Nat.{ℕ, ◌*◌, ◌≤◌, ◌<◌}
 use native.Mathlib.Omega.{arith}
 use mathlib.Core.Path.{◌≡◌, refl, ◌∙◌}
+use lib.ListN.{length}
 use Rattle.limits.specs.Limits.{most_rows, most_slices, most_tests, widest}
 use Rattle.directory.specs.File.{width_in}
 use Rattle.register.proofs.Fit.{rows_as_opened, few_rows_as_opened, width_as_opened}
@@ -32,12 +33,14 @@ loop-first-init c = nothing_yet _ _ _ _ _
 pub scan_segment-segment-requires : goal.scan_segment-segment-requires
 scan_segment-segment-requires c =
     let most = (in_eighths _ c.requires.sized).most in
+    let long : length c.args.query.tests ≡ most_tests = search rules in
     record {
       fit = record {
         judged = c.requires.judged;
         short = omega (arith, c.min-n.ensures);
         within = omega (arith, c.min-n.ensures, c.loop-first-test.true);
       };
+      slots = omega (arith, c.requires.judged.few, long);
       planned = c.plan_of-plan.ensures;
     }
 

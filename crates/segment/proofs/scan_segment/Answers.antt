@@ -26,10 +26,10 @@ use Rattle.segment.proofs.scan_segment.Goals.{else-j-column, else-slices-test, t
 
 -- the work on the segment, which is fit
 abbrev work_at : Start → Work
-work_at c = work_of c.args.register.now.file.now c.args.first c.args.n c.args.query
+work_at c = work_of c.args.register.now.file.now c.args.first c.args.n c.args.query.now
 
 fit : (c : Start) → FitWork (work_at c)
-fit c = segment_fits c.requires.fit (omega arith)
+fit c = segment_fits c.requires.fit c.requires.slots
 
 -- where some row is open, the segment's bytes of the slice lie in the file
 room : (c : Then-open-gt0) →
@@ -105,10 +105,10 @@ slices-preserved c =
 
 -- where the loop over the slices is left, by its test or because all tests are closed, they have ended
 ended : (c : Left-slices) →
-    Ended (work_of c.args.register.now.file.now c.args.first c.args.n c.args.query) c.slices-test.standings c.slices.inside
+    Ended (work_of c.args.register.now.file.now c.args.first c.args.n c.args.query.now) c.slices-test.standings c.slices.inside
     c.slices-test.counts
 ended c =
-    let fits = segment_fits c.requires.fit (omega arith) in
+    let fits = segment_fits c.requires.fit c.requires.slots in
     elim c.slices-test.branch [
       | else-slices-test w ↦
           ended_after_four fits w.slices-test.false (same_progress w.standings-is w.counts-is refl c.slices.invariant)
