@@ -3,8 +3,9 @@
 --   refused_by     a line answers: its refusal, and the buffer as it was
 --   accepted_by    none does: the elements, and the list at the front of the buffer
 --   answer_refused, answer_accepted    the answer alone, of any value
---   told_is_accepted    where a value is told, no line answers, and it is the call's
---   refusal_told        where a refusal is told, it is that of the line that answers
+--   no_line             a value is told by no line, and is the call's
+--   some_line           a refusal is told by a line, and is that line's
+--   told_is_accepted, refusal_told    so it is of the first line that holds
 use Prim.Native.Nat.{ℕ}
 use native.Mathlib.Omega.{arith}
 use mathlib.Core.Path.{◌≡◌, refl}
@@ -45,7 +46,7 @@ module _ {A : Type 0} (lines : List Line) (value : A) where
   answer_accepted first = rw first refl
 
 -- a refusal is no value
-no_line : {A : Type 0} (first : Option Line) (value told : A) →
+pub no_line : {A : Type 0} (first : Option Line) (value told : A) →
     answer_by (λ line. Err line.refusal) (Ok value) first ≡ Ok told → (first ≡ none) × (told ≡ value)
 no_line none value told e = (refl, cc)
 no_line (some line) value told e = let z : ◌≡◌ {A = ℕ} 0 1 = cc in absurd (omega arith)
@@ -56,7 +57,7 @@ unfolding answer_of
 told_is_accepted lines value told e = no_line (first_line lines) value told e
 
 -- and a value is no refusal
-some_line : {A : Type 0} (first : Option Line) (value : A) (refusal : Refusal) →
+pub some_line : {A : Type 0} (first : Option Line) (value : A) (refusal : Refusal) →
     answer_by (λ line. Err line.refusal) (Ok value) first ≡ Err refusal →
     (line : Line) × (first ≡ some line) × (line.refusal ≡ refusal)
 some_line none value refusal e = let z : ◌≡◌ {A = ℕ} 0 1 = cc in absurd (omega arith)

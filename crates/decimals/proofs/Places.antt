@@ -3,20 +3,22 @@
 --   byte_then        from a place on, its byte and then the rest
 --   byte_stands      a byte that is not 0: both
 --   byte_further     the bytes from a place on, by their distance
+--   front_by_bytes   a text that has the bytes of a word, none of them 0, begins with it
 --   by_byte          what is chosen by whether a byte is another: what holds of either holds of it
-use Prim.Native.Nat.{ℕ, ◌+◌, ◌<◌, ◌≤◌}
+use Prim.Native.Nat.{ℕ, suc, ◌+◌, ◌<◌, ◌≤◌}
 use native.Mathlib.Omega.{arith}
 use native.Mathlib.Numerals.{add-one}
-use mathlib.Core.Path.{◌≡◌, sym, ap, ap₂, subst, ◌∙◌}
+use mathlib.Core.Path.{◌≡◌, refl, sym, ap, ap₂, subst, ◌∙◌}
 use mathlib.Core.Logic.{⊎_elim}
 use mathlib.Core.Bool.{true, false, cond}
-use mathlib.Core.List.{List, ◌∷◌}
+use mathlib.Core.List.{List, [], ◌∷◌, ◌++◌}
 use lib.Dec.{eqb}
 use lib.ListN.{length, get_or, drop, get_or-eq_default}
 use lib.Seq.{drop-cons, get_or-drop}
 use borrow.Author.Tests.{eqb-true, eqb-false}
 use Rattle.basis.proofs.Runs.{within_or_past}
 use Rattle.basis.proofs.Truth.{either, hit, missed}
+use Rattle.decimals.proofs.Words.{AllOf}
 
 module _ (text : List ℕ) where
   pub byte_within : (at b : ℕ) → get_or text at 0 ≡ b → 0 < b → at < length text
@@ -39,6 +41,14 @@ module _ (text : List ℕ) where
   pub byte_further : (at i place : ℕ) {rest : List ℕ} → place ≡ at + i → drop at text ≡ rest → get_or text place 0 ≡ get_or rest i 0
   byte_further at i place far e =
       ap (λ (k : ℕ). get_or text k 0) far ∙ sym (get_or-drop at text i 0) ∙ ap (λ (bytes : List ℕ). get_or bytes i 0) e
+
+pub front_by_bytes : (word text : List ℕ) → AllOf (λ b. 0 < b) word → ((k : ℕ) → k < length word → get_or text k 0 ≡ get_or word k 0) →
+    (length word ≤ length text) × (text ≡ word ++ drop (length word) text)
+front_by_bytes [] text some each = (omega arith, refl)
+front_by_bytes (b ∷ word) [] some each = absurd (omega (arith, some.0, each 0 (omega arith)))
+front_by_bytes (b ∷ word) (x ∷ text) some each =
+    let rest = front_by_bytes word text some.1 (λ k within. each (suc k) (omega arith)) in
+    (omega arith, ap₂ ◌∷◌ (each 0 (omega arith)) rest.1)
 
 pub by_byte : {A : Type 0} (Holds : A → Type 0) (byte other : ℕ) {there missing chosen : A} →
     chosen ≡ cond (eqb byte other) there missing → (byte ≡ other → Holds there) → ((byte ≡ other → ⊥) → Holds missing) → Holds chosen

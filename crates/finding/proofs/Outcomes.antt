@@ -1,5 +1,6 @@
 -- What is found, by how the query comes out. Assumes nothing.
 --   accepted_scan    a scan that answers numbers is accepted
+--   accepted_at_0    a scan whose reply has number 0 is accepted
 --   text_refused     the text is refused
 --   not_held         the query does not fit the file, or this does not open
 --   enough           room for any register is room for this one
@@ -8,14 +9,19 @@ use Prim.Native.Nat.{ℕ, ◌≤◌}
 use native.Mathlib.Omega.{arith}
 use mathlib.Core.Path.{◌≡◌, refl, sym, ap, ◌∙◌}
 use mathlib.Core.List.{List}
-use lib.ListN.{length}
+use mathlib.Core.Option.{Option, none, some}
+use lib.ListN.{length, get_or}
 use Rattle.std.specs.Prelude.{Result, Ok, Err}
 use Rattle.refusals.specs.declared.Refusal.{Refusal}
+use Rattle.refusals.specs.Numbers.{told_of}
+use Rattle.refusals.proofs.Numbered.{never_0}
+use Rattle.basis.specs.Refusals.{Line, first_line, answer_by, answer_of}
 use Rattle.basis.specs.Buffers.{laid}
 use Rattle.answers.proofs.Replies.{told_is_accepted, answer_refused}
 use Rattle.limits.specs.Limits.{most_rows}
 use Rattle.register.specs.declared.Shape.{Shape}
 use Rattle.register.proofs.Fit.{opened_is_fit, few_rows_as_opened}
+use Rattle.query.specs.declared.Query.{Query}
 use Rattle.text.specs.declared.Asked.{Asked}
 use Rattle.asking.specs.Refusals.{asked_of}
 use Rattle.asking.proofs.Asked.{opened_as_asked}
@@ -35,6 +41,17 @@ pub accepted_scan : (file : List ℕ) (asked : Asked) (scanned : Scanned) → sc
 unfolding scan_for scanned_of
 accepted_scan file asked scanned told =
     (told_is_accepted (scan_lines file asked.size asked.query (bytes_for most_rows)) _ scanned told).0
+
+-- no refusal has the number 0
+pub accepted_at_0 : (file : List ℕ) (size : ℕ) (query : Query) (room : ℕ) → get_or (told_of (scanned_of file size query room)) 0 0 ≡ 0 →
+    Accepted file size query room
+unfolding scanned_of answer_of
+accepted_at_0 file size query room e = go (first_line (scan_lines file size query room)) e
+  where
+    go : (first : Option Line) → get_or (told_of (answer_by (λ line. Err line.refusal) (Ok (accepted file size query)) first)) 0 0 ≡ 0 →
+        first ≡ none
+    go none e = refl
+    go (some line) e = absurd (never_0 line.refusal e)
 
 -- a refusal finds nothing
 nothing_listed : {refusal : Refusal} (listed : Found) → ◌≡◌ {A = Result Found Refusal} (Err refusal) (Ok listed) → ⊥

@@ -1,15 +1,18 @@
 -- A line is read by its words: where each stands the line does, and where one is missing there is none. Assumes nothing.
 --   ColumnAt, LiteralAt the number at a place, by what follows it
+--   word_read           a text with the bytes of "segment " begins with them
 --   word_missing        a text that does not begin with "segment " has no line 0
 --   segment_read        line 0 is the word and the decimal after it, or there is none
 --   column_missing      no column, no line
+--   sign_missing        a column and no sign, no line
+--   literal_missing     a column, a sign and no literal, no line
 --   comparison_missing  a column and no comparison, no line
 --   line_read           a column and a comparison are a line
-use Prim.Native.Nat.{ℕ}
+use Prim.Native.Nat.{ℕ, ◌<◌, ◌≤◌}
 use native.Mathlib.Omega.{arith}
 use mathlib.Core.Path.{◌≡◌, sym, ap, ◌∙◌}
 use mathlib.Core.List.{List, ◌∷◌, ◌++◌, append_cancel_left}
-use lib.ListN.{drop}
+use lib.ListN.{length, get_or, drop}
 use Rattle.std.specs.Prelude.{Option, Some, None}
 use Rattle.limits.specs.Limits.{decimal_limit}
 use Rattle.query.specs.declared.Comparison.{Comparison}
@@ -21,7 +24,9 @@ use Rattle.query_lines.specs.Lines.{segment_word, sign_of, test_text, SmallTest,
 use Rattle.decimals.specs.Reading.{NumberAt}
 use Rattle.query_lines.specs.Steps.{SegmentAt, ComparisonAt, LineAt}
 use Rattle.decimals.proofs.Decimals.{same_decimal}
-use Rattle.query_lines.proofs.Lines.{segment_line_then, test_line_then}
+use Rattle.query_lines.proofs.Lines.{segment_line_then, test_line_then, same_sign}
+use Rattle.query_lines.proofs.Signs.{SignAt}
+use Rattle.decimals.proofs.Places.{front_by_bytes}
 
 -- the number at a place: a column, which a space follows, or a literal, which a line feed follows
 abbrev pub ColumnAt : List ℕ → ℕ → Option (ℕ × ℕ) → Type 0
@@ -31,6 +36,9 @@ abbrev pub LiteralAt : List ℕ → ℕ → Option (ℕ × ℕ) → Type 0
 LiteralAt text at = NumberAt decimal_limit text at LineFeed
 
 module _ (text : List ℕ) where
+  pub word_read : ((k : ℕ) → k < 8 → get_or text k 0 ≡ get_or segment_word k 0) → (8 ≤ length text) × (text ≡ segment_word ++ drop 8 text)
+  word_read each = front_by_bytes segment_word text (omega arith) each
+
   pub word_missing : ((rest : List ℕ) → text ≡ segment_word ++ rest → ⊥) → BeginsSegment text → ⊥
   word_missing none begins = none _ (begins.3 ∙ segment_line_then begins.0 begins.1)
 
@@ -56,6 +64,15 @@ module _ (text : List ℕ) (at : ℕ) where
     behind_column test rest small e =
         (same_decimal column test.column (omega arith) (omega (arith, small.column)) (λ d. omega arith) (λ d. omega arith)
         (sym number.3 ∙ e ∙ test_line_then test rest)).2
+
+    pub sign_missing : SignAt text behind None → LineAt text at None
+    sign_missing none test rest small e = none test.comparison _ (behind_column test rest small e)
+
+    pub literal_missing : (comparison : Comparison) {next : ℕ} → SignAt text behind (Some (comparison, next)) → LiteralAt text next None →
+        LineAt text at None
+    literal_missing comparison sign none test rest small e =
+        none (literal_of test.comparison) rest small.literal
+        (same_sign comparison test.comparison (sym sign.2 ∙ behind_column test rest small e)).1
 
     pub comparison_missing : ComparisonAt text behind None → LineAt text at None
     comparison_missing none test rest small e = none test.comparison rest small.literal (behind_column test rest small e)

@@ -1,6 +1,7 @@
 -- What is known past each test of `register::open`, of a trailer as it was read. Assumes nothing.
 --   known            the last bytes, as they were cut out, are the trailer
 --   past_1 .. past_6    the lines of the table that have been passed over
+--   first_unfit      how far the directory is fit
 --   body             where all columns are fit, their slices are the body
 use Prim.Native.Nat.{ℕ, ◌+◌, ◌-◌, ◌*◌, ◌≤◌}
 use native.Mathlib.Omega.{arith}
@@ -12,11 +13,13 @@ use Rattle.limits.specs.Limits.{trailer_bytes, entry_bytes, most_rows, most_colu
 use Rattle.basis.specs.Numbers.{little}
 use Rattle.basis.specs.Places.{first_place}
 use Rattle.basis.proofs.Places.{first_at_most}
+use Rattle.std.specs.Prelude.{Result, Ok, Err, MatchResult}
+use Rattle.directory.specs.declared.FirstUnfit.{FirstUnfit}
 use Rattle.directory.specs.declared.Trailer.{Trailer}
 use Rattle.directory.specs.Layout.{slices_before, bytes_before}
 use Rattle.directory.specs.File.{trailer_in, rows_in, columns_in, mark, width_in, unfit_column}
 use Rattle.directory.specs.Trailer.{TrailerRead}
-use Rattle.directory.specs.Fitting.{AllFit}
+use Rattle.directory.specs.Fitting.{AllFit, FitUpTo}
 use Rattle.register.specs.Opening.{first_unfit_column}
 use Rattle.register.proofs.Opening as opening
 use Rattle.register.proofs.Opening.{Passed}
@@ -57,6 +60,12 @@ module _ (file : List ℕ) (trailer : Trailer) (read : TrailerRead (trailer_in f
           past_5 =
               let columns = read.columns in
               opening.directory_last _ past_4 (omega (arith, read.directory, last))
+
+          -- how far the directory is fit: the first unfit column, or the number of columns
+          pub first_unfit : (fit : Result ℕ FirstUnfit) → FitUpTo file trailer.columns fit →
+              MatchResult fit (λ slices. trailer.columns ≡ first_unfit_column file) (λ unfit. unfit.column ≡ first_unfit_column file)
+          first_unfit (Ok slices) said = sym said.none_unfit ∙ ap (first_place (unfit_column file)) read.columns
+          first_unfit (Err unfit) said = said.first_unfit ∙ ap (first_place (unfit_column file)) read.columns
 
           -- past 6: all columns are fit
           module _ (slices : ℕ) (said : AllFit file trailer.columns slices) where

@@ -1,5 +1,6 @@
 -- The plan of a query, test after test, and of a column, slice after slice. Assumes nothing.
 --   fit_literal         the literal of a test that was judged fits its column
+--   planned_nothing     before the first test
 --   planned_one_more    a turn puts down the next test's column
 --   bytes_one_more      a turn puts down the next slice's low and high byte
 use Prim.Native.Nat.{ℕ, ◌+◌, ◌<◌}
@@ -21,6 +22,7 @@ use Rattle.query.specs.Tests.{literal_of, test_at}
 use Rattle.asking.specs.Judged.{Judged}
 use Rattle.segment.specs.declared.Bounds.{Bounds}
 use Rattle.segment.specs.declared.Column.{Column}
+use Rattle.segment.specs.declared.Plan.{Plan}
 use Rattle.segment.specs.Steps.{FitLiteral, BytesPlanned, ColumnPlanned, Planned, no_bounds, no_column}
 
 module _ (file : List ℕ) (shape : Shape) (query : Query) (fit : Judged file shape query) (t : ℕ)
@@ -31,6 +33,9 @@ module _ (file : List ℕ) (shape : Shape) (query : Query) (fit : Judged file sh
         narrow = (width_as_opened file shape fit.opened _ (fit.columns t h)).1;
         small = below_the_limit _ _ (fit.literals t h);
       }
+
+pub planned_nothing : (file : List ℕ) (tests : List Test) (plan : Plan) → Planned file tests 0 plan
+planned_nothing file tests plan = record { columns = λ t h. absurd (omega arith) }
 
 pub planned_one_more : {file : List ℕ} {tests : List Test} {t : ℕ} (columns : List Column) (column : Column) → t < length columns →
     Planned file tests t (record { columns = columns }) →

@@ -1,6 +1,7 @@
 -- A body put into a buffer by runs of right bytes, in any order: where a byte is right, another right byte does no harm.
 -- Assumes nothing.
 --   put_nothing    at first no slice is put
+--   put_no_rows    and no row
 --   put_slices     some slices, and then those that follow, in the same rows
 --   put_rows       some rows, and then those that follow, in the same slices
 --   put_run        a run of right bytes puts its rows in its slice
@@ -53,6 +54,10 @@ module _ (rows : ℕ) (body : List ℕ) where
   pub put_nothing : (out : List ℕ) (first past slice : ℕ) → BodyPut rows body out out first past slice slice
   put_nothing out first past slice =
       record { same_length = refl; kept = λ place h. h; put = λ s row h k. absurd (omega arith); behind = λ place h. refl }
+
+  pub put_no_rows : (out : List ℕ) (first from to : ℕ) → BodyPut rows body out out first first from to
+  put_no_rows out first from to =
+      record { same_length = refl; kept = λ place h. h; put = λ s row h k l m. absurd (omega arith); behind = λ place h. refl }
 
   module _ {before mid after : List ℕ} {first past from to : ℕ} where
     pub put_slices : {via : ℕ} → BodyPut rows body before mid first past from via → BodyPut rows body mid after first past via to →

@@ -1,8 +1,10 @@
 -- Rows taken out by one test after the other: what the first tests leave, and one test more. Assumes nothing.
 --   left_by_either       what two rules leave, one after the other, is what the two together leave
+--   none_taken_out       no test takes out nothing
 --   one_more_takes_out   the rows that one test more takes out
 use Prim.Native.Nat.{ℕ, ◌+◌, ◌*◌}
 use native.Mathlib.Numerals.{add-one}
+use native.Mathlib.Nat.{zero-add}
 use mathlib.Core.Path.{◌≡◌, refl}
 use mathlib.Core.List.{List}
 use mathlib.Core.Bool.{Bool, true, false, ◌||◌}
@@ -16,13 +18,19 @@ use Rattle.standings.specs.Standings.{left_row}
 use Rattle.query.specs.Tests.{test_at}
 use Rattle.basis.specs.Sweeps.{Swept}
 use Rattle.standings.specs.TakenOut.{taken_out, taken_out_by_all}
-use Rattle.basis.proofs.FrontSweeps.{swept_from_front, swept_alike, swept_twice}
+use Rattle.basis.proofs.FrontSweeps.{swept_from_front, swept_alike, swept_twice, swept_all_kept}
 
 -- one rule after another
 pub left_by_either : (first second : Bool) (in_still : ℕ) → left_row second (left_row first in_still) ≡ left_row (first || second) in_still
 left_by_either true true in_still = refl
 left_by_either true false in_still = refl
 left_by_either false second in_still = refl
+
+-- no test leaves all rows in
+pub none_taken_out : (rule : Comparison → ℕ → Bool) (tests : List Test) (standings in_still : List ℕ) (n : ℕ) →
+    Swept in_still in_still 0 n (taken_out_by_all rule tests 0 standings in_still)
+none_taken_out rule tests standings in_still n =
+    swept_alike (swept_all_kept in_still 0 n) (λ k h. rw (zero-add k))
 
 module _ (rule : Comparison → ℕ → Bool) (tests : List Test) (standings old : List ℕ) (n : ℕ) where
   -- one test more takes out what it takes out of what the tests before it have left

@@ -1,11 +1,12 @@
 -- Many codes judged at once: joined bit by bit, they make a number that is at least each of them. Assumes nothing.
---   raised_one_more    joining codes to what is held, one a turn
---   below_covered      where what is held is below the limits, so are all codes that it covers
---   below_fits         a code below its column's limit is not too large
+--   raised_nothing, raised_one_more    joining codes to what is held, one a turn
+--   covers_nothing, covers_one_more    periods of codes, one a turn
+--   below_none, below_covered          where what is held is below the limits, so are all codes that it covers
+--   below_fits                         a code below its column's limit is not too large
 use Prim.Native.Nat.{ℕ, ◌+◌, ◌*◌, ◌/◌, ◌%◌, ◌^◌, ◌≤◌, ◌<◌}
 use native.Mathlib.Omega.{arith}
 use native.Mathlib.Nat.{mod-lt, div-add-mod', div-lt_iff_lt-mul, mul-add-mod_self_right}
-use mathlib.Core.Path.{◌≡◌, sym, ap, ◌∙◌}
+use mathlib.Core.Path.{◌≡◌, refl, sym, ap, ◌∙◌}
 use mathlib.Core.Logic.{◌⊎◌, inl, inr}
 use mathlib.Core.List.{List}
 use mathlib.Core.Bool.{not, false}
@@ -26,6 +27,9 @@ right_joined : (a b : ℕ) → b ≤ bit_or a b
 right_joined a b = omega (arith, or_add_and a b, and_le_l a b)
 
 module _ (codes : List ℕ) (at : ℕ) where
+  pub raised_nothing : (joined : List ℕ) → Raised codes at 0 joined joined
+  raised_nothing joined = record { same_length = refl; kept = λ place. omega arith; over = λ place h. absurd (omega arith) }
+
   pub raised_one_more : (n : ℕ) {before : List ℕ} (after : List ℕ) → Raised codes at n before after → n < length after →
       Raised codes at (n + 1) before (set after n (bit_or (get_or after n 0) (get_or codes (at + n) 0)))
   raised_one_more n {before} after so_far room =
@@ -55,7 +59,24 @@ module _ (codes : List ℕ) (at : ℕ) where
           let own : place ≡ n = omega arith in
           rw (own, here) (right_joined (get_or after n 0) (get_or codes (at + n) 0))
 
+module _ (codes : List ℕ) (period : ℕ) where
+  pub covers_nothing : (joined : List ℕ) → Covers codes period 0 joined
+  covers_nothing joined = record { each = λ i place h k. absurd (omega arith) }
+
+  pub covers_one_more : (i : ℕ) {before after : List ℕ} → Covers codes period i before → Raised codes (i * period) period before after →
+      Covers codes period (i + 1) after
+  covers_one_more i {before} {after} so_far raised = record { each = λ j place h k. go j place h k (within_or_past j i) }
+    where
+      go : (j place : ℕ) → j < i + 1 → place < period → (j < i) ⊎ (i ≤ j) → get_or codes (j * period + place) 0 ≤ get_or after place 0
+      go j place h k (inl sooner) = omega (arith, so_far.each j place sooner k, raised.kept place)
+      go j place h k (inr last) =
+          let own : j ≡ i = omega arith in
+          rw own (raised.over place k)
+
 module _ (limits codes : List ℕ) (columns : ℕ) where
+  pub below_none : Below limits codes columns 0
+  below_none = record { each = λ i h. absurd (omega arith) }
+
   pub below_covered : (eights : ℕ) (joined : List ℕ) → Covers codes (8 * columns) eights joined →
       ((place : ℕ) → place < 8 * columns → get_or joined place 0 < get_or limits (place % columns) 0) → 0 < columns →
       Below limits codes columns (8 * eights)

@@ -1,6 +1,9 @@
 -- How a request is read, byte by byte. Assumes nothing.
 --   here, later               the byte that is looked for stands at a place, or comes after it
 --   grown, ended, finished    what a digit adds to a number, and what any other byte and the end of the text end
+--   digit_from                a digit is 48 at least
+--   pushed, longer            a number more in a buffer, and how many there are then
+--   rest_length               how long a list is from a place on
 --   counted                   so many elements stand at the front of a list
 --   large_stays               a number that 64 bits do not hold does not get smaller
 --   Kept                      the numbers of a text are those in the output and those that the text holds from a place on
@@ -11,10 +14,10 @@
 use Rattle.std.proofs.Common.{◌≡◌, ℕ, ◌+◌, ◌-◌, ◌*◌, ◌^◌, ◌<◌, ◌≤◌, refl, sym, ap, ◌∙◌, List, [], ◌∷◌, ◌++◌, Bool, true, false, cond}
 use Rattle.std.proofs.Common.{length, get_or, take, drop, length-set, arith, add-one, append_assoc, append-nil, length-append, drop-cons}
 use Rattle.std.proofs.Common.{Option, Some, None}
-use Rattle.std.specs.Prelude.{suc, unwrap_or, option_to_list, MatchOption}
+use Rattle.std.specs.Prelude.{suc, ◌&&◌, nat_le, unwrap_or, option_to_list, MatchOption}
 use Rattle.std.specs.Char.{is_ascii_digit}
-use borrow.Author.Tests.{eq-eqb, ne_eqb}
-use lib.ListN.{drop_of_length-le}
+use borrow.Author.Tests.{eq-eqb, ne_eqb, leb-true}
+use lib.ListN.{set, drop_of_length-le, length-drop}
 use lib.Seq.{length-take-le, take-suc-set}
 use mathlib.Core.List.{Memᴰ}
 use Rattle.io.specs.Counts.{IsPrefixLen}
@@ -43,6 +46,24 @@ module _ (text : List ℕ) (i : ℕ) (begun : Option ℕ) where
   pub finished : length text ≤ i → numbers_after begun (drop i text) ≡ option_to_list begun
   unfolding numbers_after
   finished past = rw (drop_of_length-le text {i = i} past) refl
+
+pub digit_from : (b : ℕ) → is_ascii_digit b ≡ true → 48 ≤ b
+digit_from b digit = by_test (nat_le 48 b) refl digit
+  where
+    by_test : (test : Bool) → nat_le 48 b ≡ test → (test && nat_le b 57) ≡ true → 48 ≤ b
+    by_test true from digit = leb-true 48 b from
+    by_test false below digit = let z : ◌≡◌ {A = ℕ} 0 1 = cc in omega arith
+
+-- numbers in a buffer, and one more
+pub pushed : (out : List ℕ) (count value : ℕ) (rest : List ℕ) → count < length out →
+    take (count + 1) (set out count value) ++ rest ≡ take count out ++ (value ∷ rest)
+pushed out count value rest room = rw (add-one count, take-suc-set out count value room) (append_assoc (take count out) (value ∷ []) rest)
+
+pub longer : (numbers front : List ℕ) (n : ℕ) (rest : List ℕ) → numbers ≡ front ++ (n ∷ rest) → length front < length numbers
+longer numbers front n rest e = rw e (simp length-append (omega arith))
+
+pub rest_length : (list : List ℕ) (at : ℕ) → length (take (length list - at) (drop at list)) ≡ length list - at
+rest_length list at = length-take-le (length list - at) (drop at list) (rw (length-drop at list) (omega arith))
 
 pub counted : (n : ℕ) (list : List ℕ) → n ≤ length list → IsPrefixLen n list
 counted n list within = (within, sym (length-take-le n list within))

@@ -1,0 +1,2 @@
+-- What the answers of std say of a read.
+pub mod Signs
