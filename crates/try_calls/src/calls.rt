@@ -1,6 +1,7 @@
 // The seven calls of `exports`, each made with the numbers of a request, and answered by none where these are not its numbers. Each
 // element of a reply and of an output holds 77 before the call, so that one that is left shows.
 ghost use Rattle.std.specs.Prelude.{◌^◌, ◌<◌, ◌≤◌};
+ghost use Rattle.try_calls.specs.Requests.{MadeWith, open_call, widths_call, write_call, read_call, scan_call, list_call, lookup_call};
 
 use limits::{MOST_BITS, MOST_ROWS};
 use std::fmt::Display;
@@ -16,7 +17,9 @@ const MOST_ELEMENTS: usize = 4096;
 const MOST_LISTED: usize = MOST_ROWS + 1;
 
 // A file.
-pub fn open<R: Print>(rt: &R, numbers: &[u64]) -> Option<()> {
+pub fn open<R: Print>(rt: &R, numbers: &[u64]) -> Option<()>
+    ensures { MadeWith open_call numbers.now result }
+{
     let mut file = [0u8; MOST_BYTES];
     let (file, rest) = slice_at(numbers, &mut file)?;
     if !rest.is_empty() {
@@ -30,7 +33,9 @@ pub fn open<R: Print>(rt: &R, numbers: &[u64]) -> Option<()> {
 }
 
 // A file, and an output.
-pub fn widths<R: Print>(rt: &R, numbers: &[u64]) -> Option<()> {
+pub fn widths<R: Print>(rt: &R, numbers: &[u64]) -> Option<()>
+    ensures { MadeWith widths_call numbers.now result }
+{
     let mut file = [0u8; MOST_BYTES];
     let (file, rest) = slice_at(numbers, &mut file)?;
     let Room { elements, lent } = room_of(rest, MOST_ELEMENTS)?;
@@ -42,7 +47,9 @@ pub fn widths<R: Print>(rt: &R, numbers: &[u64]) -> Option<()> {
 }
 
 // Rows, widths, codes, and an output.
-pub fn write<R: Print>(rt: &R, numbers: &[u64]) -> Option<()> {
+pub fn write<R: Print>(rt: &R, numbers: &[u64]) -> Option<()>
+    ensures { MadeWith write_call numbers.now result }
+{
     let (rows, rest) = numbers.split_first()?;
     let mut widths = [0u8; MOST_ELEMENTS];
     let (widths, rest) = slice_at(rest, &mut widths)?;
@@ -56,7 +63,9 @@ pub fn write<R: Print>(rt: &R, numbers: &[u64]) -> Option<()> {
 }
 
 // A text.
-pub fn read<R: Print>(rt: &R, numbers: &[u64]) -> Option<()> {
+pub fn read<R: Print>(rt: &R, numbers: &[u64]) -> Option<()>
+    ensures { MadeWith read_call numbers.now result }
+{
     let mut text = [0u8; MOST_ELEMENTS];
     let (text, rest) = slice_at(numbers, &mut text)?;
     if !rest.is_empty() {
@@ -70,7 +79,9 @@ pub fn read<R: Print>(rt: &R, numbers: &[u64]) -> Option<()> {
 }
 
 // A file, a text, and an output.
-pub fn scan<R: Print>(rt: &R, numbers: &[u64]) -> Option<()> {
+pub fn scan<R: Print>(rt: &R, numbers: &[u64]) -> Option<()>
+    ensures { MadeWith scan_call numbers.now result }
+{
     let mut file = [0u8; MOST_BYTES];
     let (file, rest) = slice_at(numbers, &mut file)?;
     let mut text = [0u8; MOST_ELEMENTS];
@@ -84,7 +95,9 @@ pub fn scan<R: Print>(rt: &R, numbers: &[u64]) -> Option<()> {
 }
 
 // Rows, bits, and an output. The largest is made only where it is asked for, as it takes long to fill.
-pub fn list<R: Print>(rt: &R, numbers: &[u64]) -> Option<()> {
+pub fn list<R: Print>(rt: &R, numbers: &[u64]) -> Option<()>
+    ensures { MadeWith list_call numbers.now result }
+{
     let (rows, rest) = numbers.split_first()?;
     let mut bits = [0u8; MOST_BYTES];
     let (bits, rest) = slice_at(rest, &mut bits)?;
@@ -110,7 +123,9 @@ fn list_into<R: Print, const ROOM: usize>(rt: &R, rows: usize, bits: &[u8], room
 }
 
 // A file, a column, rows, and an output.
-pub fn lookup<R: Print>(rt: &R, numbers: &[u64]) -> Option<()> {
+pub fn lookup<R: Print>(rt: &R, numbers: &[u64]) -> Option<()>
+    ensures { MadeWith lookup_call numbers.now result }
+{
     let mut file = [0u8; MOST_BYTES];
     let (file, rest) = slice_at(numbers, &mut file)?;
     let (column, rest) = rest.split_first()?;

@@ -8,6 +8,7 @@ mod calls;
 
 ghost use Rattle.std.specs.Prelude.{◌+◌, ◌≤◌, length};
 ghost use Rattle.io.specs.Counts.{IsPrefixLen};
+ghost use Rattle.try_calls.specs.Requests.{MadeFor};
 
 use calls::say;
 use std::io::Read;
@@ -87,7 +88,10 @@ fn answer<R: Print>(rt: &R, line: &[u8], numbers: &mut [u64]) {
     }
 }
 
-fn make_call<R: Print>(rt: &R, line: &[u8], text: &[u8], numbers: &mut [u64]) -> Option<()> {
+#[tactic(auto, using(crate::proofs::Words::spelt))]
+fn make_call<R: Print>(rt: &R, line: &[u8], text: &[u8], numbers: &mut [u64]) -> Option<()>
+    ensures { MadeFor (length numbers.old) line.now text.now result }
+{
     let count = numbers_of(text, numbers)?;
     let numbers = &numbers[..count];
     let word = behind(line, b' ');

@@ -1,0 +1,2 @@
+-- Which numbers each call takes.
+pub mod Requests
